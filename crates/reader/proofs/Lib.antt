@@ -1,0 +1,11 @@
+-- What is met in a part of the words is met in the whole.
+mod Frames
+mod Grammar
+mod TwoParts
+mod OnePart
+mod TestGrammar
+mod ProgramGrammar
+mod HeadFaults
+mod TestsRead
+mod ProgramsRead
+mod PairFaults

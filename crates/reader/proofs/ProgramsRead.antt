@@ -1,0 +1,75 @@
+-- What is read of a program, and what is met in it, from what was read of its parts.
+use mathlib.Core.Path.{_≡_, refl, ap, _∙_}
+use mathlib.Core.Logic.{_⊎_, inl, inr}
+use mathlib.Core.List.{List, [], _∷_, _++_}
+use Prim.Native.Nat.{ℕ, suc, _+_, _-_, _<_, _≤_}
+use native.Mathlib.Omega.{arith}
+use Rattle.kat.specs.Programs.{Program, guard, step, steps}
+use Rattle.kat.specs.Words.{words}
+use Rattle.reader.specs.declared.refusals.Fault.{Fault}
+use Rattle.reader.specs.declared.heads.Step as number
+use Rattle.reader.specs.declared.heads.Head.{Head}
+use Rattle.reader.specs.declared.heads.Head.the-variants.{Guard, Step, Sequence, Choice, Star}
+use Rattle.reader.specs.Limits.{Limit, numbers, nesting, amount, Keeps}
+use Rattle.reader.specs.Reading.{head-words, HeadFits, ProgramFault, ProgramIn, TestFault, TestIn}
+use Rattle.reader.proofs.Frames.{fault-in}
+use Rattle.reader.proofs.Grammar.{Joins}
+use Rattle.reader.proofs.TwoParts.{first-frame, second-frame, joined}
+use Rattle.reader.proofs.OnePart.{part-frame, wrapped}
+use Rattle.reader.proofs.ProgramGrammar.{programs, seqs, choices, stars, guard-frame, guard-keeps}
+
+-- the head h stands first in ws, and there is room for it
+abbrev Begun : ℕ → ℕ → Head → List ℕ → List ℕ → Type 0
+Begun d k h ws rest = (ws ≡ head-words h ++ rest) × HeadFits d k h
+
+module _ (d k : ℕ) (h : Head) (ws rest : List ℕ) (b : Begun d k h ws rest) where
+  pub guard-fault : h ≡ Guard → (f : Fault) → TestFault d rest f → ProgramFault d k ws f
+  guard-fault e f x = fault-in (guard-frame d k) ws rest f (rw e at (b .0)) x
+
+  pub guard-read : h ≡ Guard → (more : List ℕ) → TestIn d rest more → ProgramIn d k ws more k
+  guard-read e more r = (guard (r .0), cc (rw e at (b .0), r .1), (λ l. guard-keeps d k l (r .0) (r .2 l)), omega arith)
+
+  pub step-read : (n : number.Step) → h ≡ Step n → ProgramIn d k ws rest (k - 1)
+  step-read n e = let x = rw e at b in let p : 0 < k = x .1 .1 in (step (n .0), x .0, keeps, omega arith)
+    where
+      keeps : (l : Limit) → Keeps d k l (step (n .0))
+      keeps numbers = let x = rw e at b in x .1 .0
+      keeps nesting = omega arith
+      keeps amount = let x = rw e at b in let p : 0 < k = x .1 .1 in omega arith
+
+-- A head of two parts asks for a level.
+two-parts : (d k : ℕ) (h : Head) (ws rest : List ℕ) → (h ≡ Sequence) ⊎ (h ≡ Choice) → Begun d k h ws rest → (w : ℕ) × Joins words (λ p. p) w × (ws ≡ w ∷ rest) × (suc (d - 1) ≡ d)
+two-parts d k h ws rest (inl e) b = let x = rw e at b in let p : 0 < d = x .1 in (2, seqs, x .0, omega arith)
+two-parts d k h ws rest (inr e) b = let x = rw e at b in let p : 0 < d = x .1 in (3, choices, x .0, omega arith)
+
+module _ (d k : ℕ) (h : Head) (ws rest : List ℕ) (o : (h ≡ Sequence) ⊎ (h ≡ Choice)) (b : Begun d k h ws rest) where
+  pub first-fault : (f : Fault) → ProgramFault (d - 1) k rest f → ProgramFault d k ws f
+  first-fault f x =
+      let j = two-parts d k h ws rest o b in
+      fault-in (first-frame programs (j .1) (d - 1) d k (j .3)) ws rest f (j .2) x
+
+  pub second-fault : (second : List ℕ) (k′ : ℕ) (f : Fault) → ProgramIn (d - 1) k rest second k′ → ProgramFault (d - 1) k′ second f → ProgramFault d k ws f
+  second-fault second k′ f r x =
+      let j = two-parts d k h ws rest o b in
+      fault-in (second-frame programs (j .1) (d - 1) d k k′ (r .0) (j .3) (r .2) (r .3)) ws second f (cc (j .2, r .1)) x
+
+  pub both-read : (second more : List ℕ) (k′ left : ℕ) → ProgramIn (d - 1) k rest second k′ → ProgramIn (d - 1) k′ second more left → ProgramIn d k ws more left
+  both-read second more k′ left r s =
+      let j = two-parts d k h ws rest o b in
+      let y = joined programs (j .1) (d - 1) d k k′ (r .0) (s .0) ws rest second more (j .3) (j .2) (r .1) (s .1) (r .2) (r .3) (s .2) in
+      (j .1 .join (r .0) (s .0), y .0, y .1, omega (arith, j .1 .counts (r .0) (s .0), r .3, s .3))
+
+one-part : (d k : ℕ) (h : Head) (ws rest : List ℕ) → h ≡ Star → Begun d k h ws rest → (ws ≡ 4 ∷ rest) × (suc (d - 1) ≡ d)
+one-part d k h ws rest e b = let x = rw e at b in let p : 0 < d = x .1 in (x .0, omega arith)
+
+module _ (d k : ℕ) (h : Head) (ws rest : List ℕ) (o : h ≡ Star) (b : Begun d k h ws rest) where
+  pub star-fault : (f : Fault) → ProgramFault (d - 1) k rest f → ProgramFault d k ws f
+  star-fault f x =
+      let p = one-part d k h ws rest o b in
+      fault-in (part-frame programs stars (d - 1) d k (p .1)) ws rest f (p .0) x
+
+  pub star-read : (more : List ℕ) (left : ℕ) → ProgramIn (d - 1) k rest more left → ProgramIn d k ws more left
+  star-read more left r =
+      let p = one-part d k h ws rest o b in
+      let y = wrapped programs stars (d - 1) d k (r .0) ws rest more (p .1) (p .0) (r .1) (r .2) in
+      (stars .wrap (r .0), y .0, y .1, omega (arith, stars .counts (r .0), r .3))

@@ -1,0 +1,145 @@
+// What a program, and a test, begins with.
+ghost use Prim.Native.Nat.{ℕ, _<_};
+ghost use mathlib.Core.List.{_∷_, _++_};
+ghost use mathlib.Core.Path.{_≡_};
+ghost use Rattle.std.specs.Results.{Cases};
+ghost use Rattle.reader.specs.Reading.{ProgramFault, TestFault, BadNumber, head-words, HeadFits, test-head-words, TestHeadFits};
+use crate::refusals::Fault;
+use crate::refusals::Reason;
+
+// Tests have numbers below this,
+const TESTS: u32 = 4;
+// and steps below this.
+const STEPS: u32 = 8;
+
+// The number of a step.
+#[derive(Clone, Copy, PartialEq, Eq, Debug)]
+pub struct Step(pub u32);
+
+// The beginning of a program. What follows is a test behind a guard, and one or two programs behind the last three.
+#[derive(Clone, Copy)]
+pub enum Head {
+    Guard,
+    Step(Step),
+    Sequence,
+    Choice,
+    Star,
+}
+
+// The beginning of a test. What follows is one or two tests behind the last three.
+#[derive(Clone, Copy)]
+pub enum TestHead {
+    Always,
+    Never,
+    Test(u32),
+    Both,
+    Any,
+    Opposite,
+}
+
+// How many levels deeper a program may go, and how many steps it may have.
+#[derive(Clone, Copy)]
+pub struct Room {
+    pub depth: u32,
+    pub steps: u32,
+}
+
+// The number that the words begin with, below a limit, and what follows it.
+fn number(words: &[u32], limit: u32) -> Result<(u32, &[u32]), Fault>
+    ensures { λ r. ⌜ Cases r (λ x. (now (words .entry) ≡ x .0 ∷ now (x .1)) × (x .0 < limit)) (BadNumber limit (now (words .entry))) ⌝ }
+{
+    let Some((n, rest)) = words.split_first() else {
+        return Err(Fault {
+            reason: Reason::Ended,
+            left: 0,
+        });
+    };
+    if *n >= limit {
+        return Err(Fault {
+            reason: Reason::OutOfRange,
+            left: words.len(),
+        });
+    }
+    Ok((*n, rest))
+}
+
+// The head of the program that the words begin with, and what follows it.
+pub fn head_of(words: &[u32], room: Room) -> Result<(Head, &[u32]), Fault>
+    ensures { λ r. ⌜ Cases r (λ x. (now (words .entry) ≡ head-words (x .0) ++ now (x .1)) × HeadFits (room .depth) (room .steps) (x .0)) (ProgramFault (room .depth) (room .steps) (now (words .entry))) ⌝ }
+{
+    let left = words.len();
+    let Some((code, rest)) = words.split_first() else {
+        return Err(Fault {
+            reason: Reason::Ended,
+            left,
+        });
+    };
+    match *code {
+        0 => Ok((Head::Guard, rest)),
+        1 => {
+            if room.steps == 0 {
+                return Err(Fault {
+                    reason: Reason::TooManySteps,
+                    left,
+                });
+            }
+            let (n, rest) = number(rest, STEPS)?;
+            Ok((Head::Step(Step(n)), rest))
+        }
+        2..=4 => {
+            if room.depth == 0 {
+                return Err(Fault {
+                    reason: Reason::TooDeep,
+                    left,
+                });
+            }
+            match *code {
+                2 => Ok((Head::Sequence, rest)),
+                3 => Ok((Head::Choice, rest)),
+                _ => Ok((Head::Star, rest)),
+            }
+        }
+        _ => Err(Fault {
+            reason: Reason::NoCode,
+            left,
+        }),
+    }
+}
+
+// The head of the test that the words begin with, and what follows it, where there is room for so many levels.
+pub fn test_head_of(words: &[u32], depth: u32) -> Result<(TestHead, &[u32]), Fault>
+    ensures { λ r. ⌜ Cases r (λ x. (now (words .entry) ≡ test-head-words (x .0) ++ now (x .1)) × TestHeadFits depth (x .0)) (TestFault depth (now (words .entry))) ⌝ }
+{
+    let left = words.len();
+    let Some((code, rest)) = words.split_first() else {
+        return Err(Fault {
+            reason: Reason::Ended,
+            left,
+        });
+    };
+    match *code {
+        0 => Ok((TestHead::Always, rest)),
+        1 => Ok((TestHead::Never, rest)),
+        2 => {
+            let (n, rest) = number(rest, TESTS)?;
+            Ok((TestHead::Test(n), rest))
+        }
+        3..=5 => {
+            if depth == 0 {
+                return Err(Fault {
+                    reason: Reason::TooDeep,
+                    left,
+                });
+            }
+            match *code {
+                3 => Ok((TestHead::Both, rest)),
+                4 => Ok((TestHead::Any, rest)),
+                _ => Ok((TestHead::Opposite, rest)),
+            }
+        }
+        _ => Err(Fault {
+            reason: Reason::NoCode,
+            left,
+        }),
+    }
+}

@@ -1,0 +1,15 @@
+// Reads words as two programs in range, or says why they are none.
+mod heads;
+mod pairs;
+mod parts;
+mod refusals;
+
+pub use heads::Head;
+pub use heads::Step;
+pub use heads::TestHead;
+pub use heads::head_of;
+pub use heads::test_head_of;
+pub use pairs::Pair;
+pub use pairs::read_pair;
+pub use refusals::Reason;
+pub use refusals::Refusal;

@@ -1,0 +1,68 @@
+// Two programs, one after the other.
+ghost use Prim.Native.Nat.{ℕ, _≤_};
+ghost use lib.ListN.{length};
+ghost use Rattle.std.specs.Results.{Cases};
+ghost use Rattle.reader.specs.Reading.{IsPair, PairFault, Refused};
+use crate::heads::Room;
+use crate::parts::after_program;
+use crate::refusals::Fault;
+use crate::refusals::Reason;
+use crate::refusals::Refusal;
+
+// The most words that two programs may have,
+const MAX_WORDS: usize = 4096;
+// and the most levels and steps that each may have.
+const MAX_DEPTH: u32 = 64;
+
+const MAX_STEPS: u32 = 12;
+
+// Where the second of two programs begins, and how many steps are written in each.
+#[derive(Clone, Copy, PartialEq, Eq, Debug)]
+pub struct Pair {
+    pub second: usize,
+    pub first_steps: u32,
+    pub second_steps: u32,
+}
+
+// The two programs that words are, which are not too many.
+fn two_programs(words: &[u32]) -> Result<Pair, Fault>
+    requires { ⌜ length (now words) ≤ 4096 ⌝ }
+    ensures { λ r. ⌜ Cases r (IsPair (now (words .entry))) (PairFault (now (words .entry))) ⌝ }
+{
+    let room = Room {
+        depth: MAX_DEPTH,
+        steps: MAX_STEPS,
+    };
+    let (second, first_left) = after_program(words, room)?;
+    let (rest, second_left) = after_program(second, room)?;
+    if !rest.is_empty() {
+        return Err(Fault {
+            reason: Reason::LeftOver,
+            left: rest.len(),
+        });
+    }
+    Ok(Pair {
+        second: words.len() - second.len(),
+        first_steps: MAX_STEPS - first_left,
+        second_steps: MAX_STEPS - second_left,
+    })
+}
+
+// The two programs in range that the words are, or why they are none.
+pub fn read_pair(words: &[u32]) -> Result<Pair, Refusal>
+    ensures { λ r. ⌜ Cases r (IsPair (now (words .entry))) (Refused (now (words .entry))) ⌝ }
+{
+    if words.len() > MAX_WORDS {
+        return Err(Refusal {
+            reason: Reason::TooLong,
+            at: MAX_WORDS,
+        });
+    }
+    match two_programs(words) {
+        Ok(pair) => Ok(pair),
+        Err(Fault { reason, left }) => Err(Refusal {
+            reason,
+            at: words.len() - left,
+        }),
+    }
+}
