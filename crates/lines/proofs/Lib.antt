@@ -1,0 +1,4 @@
+-- That lines of numbers are read as what they spell.
+mod Scans
+mod SpelledRead
+mod ReadSpelled

@@ -1,0 +1,70 @@
+-- How a line is read, byte by byte.
+--     Scan      the numbers that are complete, and where reading stands
+--     effect    what a byte makes of where reading stands: it goes on, or a number has ended
+--     after     what a byte makes of a scan that keeps at most so many numbers
+--     scan      what bytes make of it, one after the other
+--     Lines-are-read   the bytes of a line, and then a newline, leave exactly the numbers that they spell, and nothing stopped
+use mathlib.Core.Path.{_≡_}
+use mathlib.Core.Bool.{cond}
+use mathlib.Core.Logic.{_↔_}
+use mathlib.Core.List.{List, [], _∷_, _++_}
+use Prim.Native.Nat.{ℕ, _+_, _-_, _*_, _^_, _<_, _≤_, min}
+use lib.Dec.{ltb}
+use lib.ListN.{length}
+use Rattle.std.specs.Of.Vec.{vec-items}
+use Rattle.lines.specs.declared.Fault.the-variants.{NotNumber, TooLarge, TooMany}
+use Rattle.lines.specs.declared.State.{State}
+use Rattle.lines.specs.declared.State.the-variants.{Gap, Number, Stopped}
+use Rattle.lines.specs.declared.Effect.{Effect}
+use Rattle.lines.specs.declared.Effect.the-variants.{Goes, Ends}
+use Rattle.lines.specs.declared.Line.{Line}
+use Rattle.lines.specs.Spelling.{blank, digit, Spells}
+
+pub record Scan : Type 0 where
+  pub numbers : List ℕ
+  pub state : State
+
+abbrev pub started : Scan
+started = record { numbers = []; state = Gap }
+
+abbrev pub scan-of : Line → Scan
+scan-of l = record { numbers = vec-items (l .numbers); state = l .state }
+
+-- A digit after the number n: it is worth so much then, unless that does not fit 32 bits.
+abbrev pub grown : ℕ → State
+grown n = cond (ltb n (2 ^ 32)) (Number n) (Stopped TooLarge)
+
+abbrev pub effect : State → ℕ → Effect
+effect Gap b = cond (blank b) (Goes Gap) (cond (digit b) (Goes (Number (b - 48))) (Goes (Stopped NotNumber)))
+effect (Number n) b = cond (blank b) (Ends n) (cond (digit b) (Goes (grown (10 * n + (b - 48)))) (Goes (Stopped NotNumber)))
+effect (Stopped f) b = Goes (Stopped f)
+
+abbrev pub kept : ℕ → List ℕ → Effect → Scan
+kept most ns (Goes s) = record { numbers = ns; state = s }
+kept most ns (Ends n) = cond (ltb (length ns) most) (record { numbers = ns ++ n ∷ []; state = Gap }) (record { numbers = ns; state = Stopped TooMany })
+
+abbrev pub after : ℕ → Scan → ℕ → Scan
+after most s b = kept most (s .numbers) (effect (s .state) b)
+
+abbrev pub scan : ℕ → Scan → List ℕ → Scan
+scan most s [] = s
+scan most s (b ∷ bs) = scan most (after most s b) bs
+
+-- how many bytes came, the one at which reading stopped included
+abbrev pub column-after : State → ℕ → ℕ
+column-after Gap c = min (c + 1) (2 ^ 64 - 1)
+column-after (Number n) c = min (c + 1) (2 ^ 64 - 1)
+column-after (Stopped f) c = c
+
+abbrev pub Goes-on : State → Type 0
+Goes-on Gap = Unit {0}
+Goes-on (Number n) = Unit {0}
+Goes-on (Stopped f) = ⊥
+
+-- each number fits 32 bits
+abbrev pub Fit : List ℕ → Type 0
+Fit [] = Unit {0}
+Fit (n ∷ ns) = (n < 2 ^ 32) × Fit ns
+
+abbrev pub Lines-are-read : Type 0
+Lines-are-read = (most : ℕ) (bs ns : List ℕ) → (Spells bs ns × Fit ns × (length ns ≤ most)) ↔ (scan most started (bs ++ 10 ∷ []) ≡ record { numbers = ns; state = Gap })

@@ -1,0 +1,136 @@
+// Lines of decimal numbers, read byte by byte: a line may be as long as it likes, and needs no more memory than its numbers.
+ghost use Prim.Native.Nat.{_+_};
+ghost use mathlib.Core.Path.{_≡_};
+ghost use Rattle.std.specs.Results.{Cases};
+ghost use Rattle.lines.specs.Scanning.{scan-of, started, effect, after, column-after, Goes-on, Lines-are-read};
+ghost use Rattle.lines.specs.declared.State.the-variants.{Stopped};
+ghost use lib.Dec.{eqb};
+use std::alloc::AllocError;
+use std::alloc::Global;
+
+// Why a line is not one of numbers.
+#[derive(Clone, Copy, PartialEq, Eq, Debug)]
+pub enum Fault {
+    NotNumber,
+    TooLarge,
+    TooMany,
+}
+
+// The byte at which reading stopped, counted from 1, and why.
+#[derive(Clone, Copy, PartialEq, Eq, Debug)]
+pub struct Stop {
+    pub fault: Fault,
+    pub column: usize,
+}
+
+// Where reading stands: between numbers, in one that is worth so much, or where it stopped.
+#[derive(Clone, Copy)]
+pub enum State {
+    Gap,
+    Number(u32),
+    Stopped(Fault),
+}
+
+// What a byte makes of where reading stands: it goes on, or a number has ended.
+#[derive(Clone, Copy)]
+enum Effect {
+    Goes(State),
+    Ends(u32),
+}
+
+// What the byte makes of the state.
+fn take(state: State, byte: u8) -> Effect
+    ensures { λ r. ⌜ r ≡ effect state byte ⌝ }
+{
+    match (state, byte) {
+        (State::Stopped(_), _) => Effect::Goes(state),
+        (State::Gap, b' ' | b'\t' | b'\r' | b'\n') => Effect::Goes(State::Gap),
+        (State::Number(n), b' ' | b'\t' | b'\r' | b'\n') => Effect::Ends(n),
+        (State::Gap, b'0'..=b'9') => Effect::Goes(State::Number(u32::from(byte - b'0'))),
+        (State::Number(n), b'0'..=b'9') => {
+            let grown = u64::from(n) * 10 + u64::from(byte - b'0');
+            if grown > u64::from(u32::MAX) {
+                return Effect::Goes(State::Stopped(Fault::TooLarge));
+            }
+            Effect::Goes(State::Number(grown as u32))
+        }
+        _ => Effect::Goes(State::Stopped(Fault::NotNumber)),
+    }
+}
+
+// The numbers of a line, as its bytes come.
+#[derive(Drop)]
+pub struct Line {
+    numbers: Vec<u32>,
+    most: usize,
+    state: State,
+    column: usize,
+}
+
+impl Line {
+    // A line with no byte yet, which keeps at most so many numbers.
+    pub fn new(heap: Global, most: usize) -> Self
+        ensures scan { λ r. ⌜ scan-of r ≡ started ⌝ }
+        ensures rest { λ r. ⌜ (r .most ≡ most) × (r .column ≡ 0) ⌝ }
+    {
+        Line {
+            numbers: Vec::new(heap),
+            most,
+            state: State::Gap,
+            column: 0,
+        }
+    }
+
+    // One byte more; where there is no memory for a number, nothing changes.
+    pub fn push(&mut self, byte: u8) -> Result<(), AllocError>
+        ensures scan { λ r. ⌜ Cases r (λ _. scan-of (now (self .exit)) ≡ after (now (self .entry) .most) (scan-of (now (self .entry))) byte) (λ _. scan-of (now (self .exit)) ≡ scan-of (now (self .entry))) ⌝ }
+        ensures column { λ r. ⌜ Cases r (λ _. now (self .exit) .column ≡ column-after (now (self .entry) .state) (now (self .entry) .column)) (λ _. now (self .exit) .column ≡ now (self .entry) .column) ⌝ }
+        ensures most { λ r. ⌜ now (self .exit) .most ≡ now (self .entry) .most ⌝ }
+    {
+        let column = match self.state {
+            State::Stopped(_) => self.column,
+            _ => self.column.saturating_add(1),
+        };
+        match take(self.state, byte) {
+            Effect::Goes(state) => self.state = state,
+            Effect::Ends(n) if self.numbers.len() < self.most => {
+                self.numbers.push(n)?;
+                self.state = State::Gap;
+            }
+            Effect::Ends(_) => self.state = State::Stopped(Fault::TooMany),
+        }
+        self.column = column;
+        Ok(())
+    }
+
+    // The numbers that are complete, or where reading stopped. A newline completes the last number.
+    pub fn numbers(&self) -> Result<&[u32], Stop>
+        ensures value { λ r. ⌜ Cases r (λ x. (now x ≡ scan-of (now (self .entry)) .numbers) × Goes-on (now (self .entry) .state)) (λ s. (now (self .entry) .state ≡ Stopped (s .fault)) × (s .column ≡ now (self .entry) .column)) ⌝ }
+        ensures law { λ _. ⌜ Lines-are-read ⌝ }
+    {
+        match self.state {
+            State::Stopped(fault) => Err(Stop {
+                fault,
+                column: self.column,
+            }),
+            State::Gap | State::Number(_) => Ok(self.numbers.as_slice()),
+        }
+    }
+
+    // Whether no byte has come yet.
+    pub fn is_empty(&self) -> bool
+        ensures { λ r. ⌜ r ≡ eqb (now (self .entry) .column) 0 ⌝ }
+    {
+        self.column == 0
+    }
+
+    // Forgets the bytes so far.
+    pub fn clear(&mut self)
+        ensures scan { λ _. ⌜ scan-of (now (self .exit)) ≡ started ⌝ }
+        ensures rest { λ _. ⌜ (now (self .exit) .most ≡ now (self .entry) .most) × (now (self .exit) .column ≡ 0) ⌝ }
+    {
+        self.numbers.clear();
+        self.state = State::Gap;
+        self.column = 0;
+    }
+}
