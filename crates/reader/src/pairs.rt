@@ -10,7 +10,7 @@ use crate::refusals::Reason;
 use crate::refusals::Refusal;
 
 // The most words that two programs may have,
-const MAX_WORDS: usize = 4096;
+pub const MAX_WORDS: usize = 4096;
 // and the most levels and steps that each may have.
 const MAX_DEPTH: u32 = 64;
 

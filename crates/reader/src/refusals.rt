@@ -1,4 +1,11 @@
 // Why words are not two programs in range.
+ghost use mathlib.Core.List.{_++_};
+ghost use mathlib.Core.Path.{_≡_};
+ghost use Rattle.std.specs.Written.{decimal};
+ghost use Rattle.std.specs.declared.option.Option.the-variants.{Some};
+ghost use lib.Chars.{codes};
+ghost use Rattle.reader.specs.Texts.{reason-text};
+use std::fmt;
 
 // What was met first, reading from the left.
 #[derive(Clone, Copy, PartialEq, Eq, Debug)]
@@ -24,4 +31,31 @@ pub struct Refusal {
 pub struct Fault {
     pub reason: Reason,
     pub left: usize,
+}
+
+impl Reason {
+    // The reason in words.
+    pub fn text(self) -> &'static str
+        ensures { λ r. ⌜ now r ≡ reason-text self ⌝ }
+    {
+        match self {
+            Reason::TooLong => "too long",
+            Reason::Ended => "ended inside a program",
+            Reason::NoCode => "no code",
+            Reason::OutOfRange => "number out of range",
+            Reason::TooDeep => "too deep",
+            Reason::TooManySteps => "too many steps",
+            Reason::LeftOver => "words left over",
+        }
+    }
+}
+
+pub impl fmt::Display for Refusal as RefusalDisplay {
+    ghost shown = { λ r. Some (reason-text (r .reason) ++ (codes ", at word " ++ decimal (r .at))) };
+
+    fn fmt<W: fmt::Write>(&self, f: &mut fmt::Formatter<W>) -> fmt::Result {
+        let reason = self.reason.text();
+        let at = self.at;
+        write!(f, "{reason}, at word {at}")
+    }
 }
