@@ -1,6 +1,9 @@
 // What is answered to a line of words.
 ghost use Prim.Native.Nat.{ℕ};
-ghost use Rattle.compare.specs.Answering.{Answered};
+ghost use mathlib.Core.Path.{_≡_};
+ghost use Rattle.std.specs.declared.option.Option.the-variants.{Some};
+ghost use Rattle.lines.specs.Scanning.{scan-of};
+ghost use Rattle.compare.specs.Answering.{Answered, LineAnswered, fault-text, why-text, answer-text};
 use lines::Fault;
 use lines::Line;
 use lines::Stop;
@@ -38,31 +41,60 @@ pub fn answer_words(words: &[u32]) -> Answer
 }
 
 // The answer to a line that was read to its end.
-pub fn answer_line(line: &Line) -> Answer {
+pub fn answer_line(line: &Line) -> Answer
+    ensures { λ r. ⌜ LineAnswered (scan-of (now (line .entry))) r ⌝ }
+{
     match line.numbers() {
         Ok(words) => answer_words(words),
-        Err(Stop { fault: Fault::TooMany, column: _ }) => {
-            let refusal = Refusal { reason: Reason::TooLong, at: reader::MAX_WORDS };
+        Err(
+            Stop {
+                fault: Fault::TooMany,
+                column: _,
+            },
+        ) => {
+            let refusal = Refusal {
+                reason: Reason::TooLong,
+                at: reader::MAX_WORDS,
+            };
             Answer::NoPrograms(Why::Refused(refusal))
         }
         Err(stop) => Answer::NoPrograms(Why::NoNumbers(stop)),
     }
 }
 
+// The fault in words.
+fn fault_text(fault: Fault) -> &'static str
+    ensures { λ r. ⌜ now r ≡ fault-text fault ⌝ }
+{
+    match fault {
+        Fault::NotNumber => "not a number",
+        Fault::TooLarge => "a number over 32 bits",
+        Fault::TooMany => "too long",
+    }
+}
+
+pub impl fmt::Display for Why as WhyDisplay {
+    ghost shown = { λ w. Some (why-text w) };
+
+    fn fmt<W: fmt::Write>(&self, f: &mut fmt::Formatter<W>) -> fmt::Result {
+        match *self {
+            Why::Empty => write!(f, "an empty line"),
+            Why::NoNumbers(Stop { fault, column }) => {
+                let text = fault_text(fault);
+                write!(f, "{text}, at column {column}")
+            }
+            Why::Refused(refusal) => write!(f, "{refusal}"),
+        }
+    }
+}
+
 pub impl fmt::Display for Answer as AnswerDisplay {
+    ghost shown = { λ a. Some (answer-text a) };
+
     fn fmt<W: fmt::Write>(&self, f: &mut fmt::Formatter<W>) -> fmt::Result {
         match *self {
             Answer::TwoPrograms => write!(f, "two programs"),
-            Answer::NoPrograms(Why::Empty) => write!(f, "no programs: an empty line"),
-            Answer::NoPrograms(Why::NoNumbers(stop)) => {
-                let what = match stop.fault {
-                    Fault::TooLarge => "a number over 32 bits",
-                    _ => "not a number",
-                };
-                let column = stop.column;
-                write!(f, "no programs: {what}, at column {column}")
-            }
-            Answer::NoPrograms(Why::Refused(refusal)) => write!(f, "no programs: {refusal}"),
+            Answer::NoPrograms(why) => write!(f, "no programs: {why}"),
         }
     }
 }

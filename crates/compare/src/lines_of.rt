@@ -44,7 +44,11 @@ fn answer_bytes<W: Write>(bytes: &[u8], line: &mut Line, out: &mut W) -> Result<
 }
 
 // Answers each line of the input. It needs no more memory than the numbers of one line.
-pub fn answer_lines<R: Read, W: Write>(input: &mut R, out: &mut W, heap: Global) -> Result<(), Trouble> {
+pub fn answer_lines<R: Read, W: Write>(
+    input: &mut R,
+    out: &mut W,
+    heap: Global,
+) -> Result<(), Trouble> {
     let mut line = Line::new(heap, reader::MAX_WORDS);
     let mut buf = [0u8; 4096];
     for _ in 0..u64::MAX {

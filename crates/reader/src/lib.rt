@@ -12,6 +12,8 @@ pub use heads::head_of;
 pub use heads::test_head_of;
 pub use pairs::MAX_WORDS;
 pub use pairs::Pair;
+pub use pairs::PairDebug;
+pub use pairs::PairPartialEq;
 pub use pairs::read_pair;
 pub use refusals::Fault;
 pub use refusals::Reason;
@@ -21,3 +23,6 @@ pub use refusals::Refusal;
 pub use refusals::RefusalDebug;
 pub use refusals::RefusalDisplay;
 pub use refusals::RefusalPartialEq;
+
+#[cfg(test)]
+mod tests;

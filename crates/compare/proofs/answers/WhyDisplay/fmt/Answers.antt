@@ -1,0 +1,4 @@
+use Rattle.compare.proofs.answers.WhyDisplay.fmt.Needs as need
+
+pub returns-in-Empty : need.returns-in-Empty
+returns-in-Empty g c = rw (c .in-Empty .is) (c .write .ensures .shows)
