@@ -1,5 +1,4 @@
 // What is answered to a line of words.
-ghost use Prim.Native.Nat.{ℕ};
 ghost use mathlib.Core.Path.{_≡_};
 ghost use Rattle.std.specs.declared.option.Option.the-variants.{Some};
 ghost use Rattle.lines.specs.Scanning.{scan-of};

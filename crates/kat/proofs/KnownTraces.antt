@@ -1,10 +1,7 @@
 -- Programs with known tests look at the first four bits of an atom only, so that any trace may be cut to a known one.
 use mathlib.Core.Path.{_≡_, refl, sym, ap}
-use mathlib.Core.Bool.{_&&_, _||_, not}
-use mathlib.Core.Logic.{_↔_}
 use mathlib.Core.List.{List, [], _∷_, _++_}
 use Prim.Native.Nat.{ℕ, suc, _<_}
-use lib.Dec.{T}
 use lib.ListN.{length}
 use Rattle.kat.specs.Programs.{Test, always, never, test, both, any, opposite, Program, guard, step, seq, choice, star, KnownTest, Known}
 use Rattle.kat.specs.Traces.{bit, holds, Move, Trace, last-atom, Has, by-guard, by-step, by-seq, by-left, by-right, by-none, by-more, KnownMoves, KnownTrace}

@@ -1,9 +1,9 @@
 -- Words are at most two programs: no program's words begin another's, so that what follows a program is read in one way.
 use mathlib.Core.Path.{_≡_, sym, _∙_}
-use mathlib.Core.List.{List, [], _∷_, _++_, append-assoc, append-nil}
+use mathlib.Core.List.{List, [], _++_, append-assoc, append-nil}
 use Prim.Native.Nat.{ℕ}
 use Rattle.kat.specs.Programs.{Test, always, never, test, both, any, opposite, Program, guard, step, seq, choice, star}
-use Rattle.kat.specs.Words.{test-words, words, TwoPrograms}
+use Rattle.kat.specs.Words.{test-words, words}
 use Rattle.kat.specs.Theory.{Unique-reading}
 
 -- Each pair of different constructors has different first words.

@@ -1,7 +1,6 @@
 -- A walk: moves taken in a sense, past states whose atoms the moves name. What a program does between two states is a walk
 -- along one of its traces, and each of its traces that can be walked leads from state to state.
 use mathlib.Core.Path.{_≡_, refl}
-use mathlib.Core.Bool.{_&&_, _||_, not}
 use mathlib.Core.List.{List, [], _∷_, _++_}
 use Prim.Native.Nat.{ℕ, suc, _<_, _≤_, max}
 use native.Mathlib.Omega.{arith}

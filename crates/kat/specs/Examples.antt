@@ -1,7 +1,7 @@
 -- The definitions at one small program, `while 0 do 1`.
 use mathlib.Core.Path.{_≡_}
 use mathlib.Core.List.{[], _∷_}
-use Prim.Native.Nat.{ℕ, suc}
+use Prim.Native.Nat.{suc}
 use lib.Dec.{eqb, ltb}
 use Rattle.kat.specs.Programs.{Test, test, opposite, Program, guard, step, seq, star}
 use Rattle.kat.specs.Traces.{Has}

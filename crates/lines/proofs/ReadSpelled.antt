@@ -4,7 +4,7 @@ use mathlib.Core.Bool.{Bool, true, false, cond}
 use mathlib.Core.List.{List, [], _∷_, _++_, append-assoc, append-nil}
 use Prim.Native.Nat.{ℕ, _+_, _-_, _*_, _^_, _<_, _≤_}
 use native.Mathlib.Omega.{arith}
-use borrow.Author.Tests.{ltb-true, ltb-false}
+use borrow.Author.Tests.{ltb-true}
 use lib.Dec.{ltb}
 use lib.ListN.{length, length-append}
 use Rattle.std.proofs.shelf.Ways.{tells}
@@ -15,7 +15,7 @@ use Rattle.lines.specs.declared.State.the-variants.{Gap, Number, Stopped}
 use Rattle.lines.specs.declared.Effect.{Effect}
 use Rattle.lines.specs.declared.Effect.the-variants.{Goes, Ends}
 use Rattle.lines.specs.Spelling.{blank, digit, Digits, value, Parted, Spells, nothing, a-blank, a-number}
-use Rattle.lines.specs.Scanning.{Scan, grown, kept, scan, Fit, started, Lines-are-read}
+use Rattle.lines.specs.Scanning.{Scan, grown, kept, scanned, Fit, Lines-are-read}
 use Rattle.lines.proofs.SpelledRead.{spelled-read}
 
 -- what the bytes bs spell behind the numbers `pre`, if all that is read then is ns
@@ -40,9 +40,9 @@ digit-small b h = grind (arith, tells)
 module _ (most : ℕ) (ns : List ℕ) where
   -- all that is read of the bytes is ns
   abbrev Reads : List ℕ → State → List ℕ → Type 0
-  Reads pre s bs = scan most (record { numbers = pre; state = s }) (bs ++ 10 ∷ []) ≡ record { numbers = ns; state = Gap }
+  Reads pre s bs = scanned most (record { numbers = pre; state = s }) (bs ++ 10 ∷ []) ≡ record { numbers = ns; state = Gap }
 
-  stays-stopped : (pre bs : List ℕ) (f : Fault) → scan most (record { numbers = pre; state = Stopped f }) bs ≡ record { numbers = pre; state = Stopped f }
+  stays-stopped : (pre bs : List ℕ) (f : Fault) → scanned most (record { numbers = pre; state = Stopped f }) bs ≡ record { numbers = pre; state = Stopped f }
   stays-stopped pre [] f = refl
   stays-stopped pre (b ∷ bs) f = stays-stopped pre bs f
 
@@ -53,7 +53,7 @@ module _ (most : ℕ) (ns : List ℕ) where
       omega arith
 
   -- A number that has ended, kept or not.
-  ends : (b : ℕ) (bs pre : List ℕ) (n : ℕ) (fits : Bool) → ltb (length pre) most ≡ fits → blank b ≡ true → n < 2 ^ 32 → ((x : List ℕ) (s : State) → Reads x s bs → SpelledFrom most x s bs ns) → scan most (cond fits (record { numbers = pre ++ n ∷ []; state = Gap }) (record { numbers = pre; state = Stopped TooMany })) (bs ++ 10 ∷ []) ≡ record { numbers = ns; state = Gap } → SpelledFrom most pre (Number n) (b ∷ bs) ns
+  ends : (b : ℕ) (bs pre : List ℕ) (n : ℕ) (fits : Bool) → ltb (length pre) most ≡ fits → blank b ≡ true → n < 2 ^ 32 → ((x : List ℕ) (s : State) → Reads x s bs → SpelledFrom most x s bs ns) → scanned most (cond fits (record { numbers = pre ++ n ∷ []; state = Gap }) (record { numbers = pre; state = Stopped TooMany })) (bs ++ 10 ∷ []) ≡ record { numbers = ns; state = Gap } → SpelledFrom most pre (Number n) (b ∷ bs) ns
   ends b bs pre n true h p l ih e _ =
       let r = ih (pre ++ n ∷ []) Gap e (simp length-append (omega (arith, ltb-true (length pre) most h))) in
       ([], b ∷ bs, refl, tt, p, l, (r .0, a-blank p (r .1), r .2, r .3, r .4))
@@ -78,7 +78,7 @@ module _ (most : ℕ) (ns : List ℕ) where
         r .6 .4,
       )
 
-  one-byte : (b : ℕ) (bs pre : List ℕ) (s : State) (blank? digit? : Bool) → blank b ≡ blank? → digit b ≡ digit? → ((x : List ℕ) (t : State) → Reads x t bs → SpelledFrom most x t bs ns) → scan most (kept most pre (effect-by blank? digit? s b)) (bs ++ 10 ∷ []) ≡ record { numbers = ns; state = Gap } → SpelledFrom most pre s (b ∷ bs) ns
+  one-byte : (b : ℕ) (bs pre : List ℕ) (s : State) (blank? digit? : Bool) → blank b ≡ blank? → digit b ≡ digit? → ((x : List ℕ) (t : State) → Reads x t bs → SpelledFrom most x t bs ns) → scanned most (kept most pre (effect-by blank? digit? s b)) (bs ++ 10 ∷ []) ≡ record { numbers = ns; state = Gap } → SpelledFrom most pre s (b ∷ bs) ns
   one-byte b bs pre Gap true digit? h k ih e = λ l. let r = ih pre Gap e l in (r .0, a-blank h (r .1), r .2, r .3, r .4)
   one-byte b bs pre Gap false true h k ih e = λ l. begins b bs pre k (ih pre (Number (b - 48)) e)
   one-byte b bs pre Gap false false h k ih e = λ l. absurd (never-stopped pre bs NotNumber e)

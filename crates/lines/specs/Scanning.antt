@@ -2,7 +2,7 @@
 --     Scan      the numbers that are complete, and where reading stands
 --     effect    what a byte makes of where reading stands: it goes on, or a number has ended
 --     after     what a byte makes of a scan that keeps at most so many numbers
---     scan      what bytes make of it, one after the other
+--     scanned   what bytes make of it, one after the other
 --     Lines-are-read   the bytes of a line, and then a newline, leave exactly the numbers that they spell, and nothing stopped
 use mathlib.Core.Path.{_≡_}
 use mathlib.Core.Bool.{cond}
@@ -17,6 +17,7 @@ use Rattle.lines.specs.declared.State.{State}
 use Rattle.lines.specs.declared.State.the-variants.{Gap, Number, Stopped}
 use Rattle.lines.specs.declared.Effect.{Effect}
 use Rattle.lines.specs.declared.Effect.the-variants.{Goes, Ends}
+use Rattle.lines.specs.declared.Stop.{Stop}
 use Rattle.lines.specs.declared.Line.{Line}
 use Rattle.lines.specs.Spelling.{blank, digit, Spells}
 
@@ -46,9 +47,9 @@ kept most ns (Ends n) = cond (ltb (length ns) most) (record { numbers = ns ++ n 
 abbrev pub after : ℕ → Scan → ℕ → Scan
 after most s b = kept most (s .numbers) (effect (s .state) b)
 
-abbrev pub scan : ℕ → Scan → List ℕ → Scan
-scan most s [] = s
-scan most s (b ∷ bs) = scan most (after most s b) bs
+abbrev pub scanned : ℕ → Scan → List ℕ → Scan
+scanned most s [] = s
+scanned most s (b ∷ bs) = scanned most (after most s b) bs
 
 -- how many bytes came, the one at which reading stopped included
 abbrev pub column-after : State → ℕ → ℕ
@@ -56,10 +57,31 @@ column-after Gap c = min (c + 1) (2 ^ 64 - 1)
 column-after (Number n) c = min (c + 1) (2 ^ 64 - 1)
 column-after (Stopped f) c = c
 
-abbrev pub Goes-on : State → Type 0
-Goes-on Gap = Unit {0}
-Goes-on (Number n) = Unit {0}
-Goes-on (Stopped f) = ⊥
+-- a line with no byte yet, which keeps at most so many numbers
+pub record Fresh (most : ℕ) (l : Line) : Type 0 where
+  pub scan : scan-of l ≡ started
+  pub column : l .column ≡ 0
+  pub limit : l .most ≡ most
+
+-- the line l with one byte more is l′
+pub record Pushed (l : Line) (b : ℕ) (l′ : Line) : Type 0 where
+  pub scan : scan-of l′ ≡ after (l .most) (scan-of l) b
+  pub column : l′ .column ≡ column-after (l .state) (l .column)
+  pub limit : l′ .most ≡ l .most
+
+-- nothing has changed
+pub record Same (l l′ : Line) : Type 0 where
+  pub scan : scan-of l′ ≡ scan-of l
+  pub column : l′ .column ≡ l .column
+  pub limit : l′ .most ≡ l .most
+
+-- Reading has not stopped, and these are the numbers that are complete.
+abbrev pub Complete : Scan → List ℕ → Type 0
+Complete s ns = elim (s .state) [ Gap ↦ ns ≡ s .numbers | Number n ↦ ns ≡ s .numbers | Stopped f ↦ ⊥ ]
+
+-- Reading has stopped here.
+abbrev pub StoppedAt : Line → Stop → Type 0
+StoppedAt l s = (l .state ≡ Stopped (s .fault)) × (s .column ≡ l .column)
 
 -- each number fits 32 bits
 abbrev pub Fit : List ℕ → Type 0
@@ -67,4 +89,4 @@ Fit [] = Unit {0}
 Fit (n ∷ ns) = (n < 2 ^ 32) × Fit ns
 
 abbrev pub Lines-are-read : Type 0
-Lines-are-read = (most : ℕ) (bs ns : List ℕ) → (Spells bs ns × Fit ns × (length ns ≤ most)) ↔ (scan most started (bs ++ 10 ∷ []) ≡ record { numbers = ns; state = Gap })
+Lines-are-read = (most : ℕ) (bs ns : List ℕ) → (Spells bs ns × Fit ns × (length ns ≤ most)) ↔ (scanned most started (bs ++ 10 ∷ []) ≡ record { numbers = ns; state = Gap })

@@ -1,9 +1,7 @@
 // Lines of decimal numbers, read byte by byte: a line may be as long as it likes, and needs no more memory than its numbers.
-ghost use Prim.Native.Nat.{_+_};
 ghost use mathlib.Core.Path.{_≡_};
 ghost use Rattle.std.specs.Results.{Cases};
-ghost use Rattle.lines.specs.Scanning.{scan-of, started, effect, after, column-after, Goes-on, Lines-are-read};
-ghost use Rattle.lines.specs.declared.State.the-variants.{Stopped};
+ghost use Rattle.lines.specs.Scanning.{Complete, Fresh, Lines-are-read, Pushed, Same, StoppedAt, effect, scan-of};
 ghost use lib.Dec.{eqb};
 use std::alloc::AllocError;
 use std::alloc::Global;
@@ -70,8 +68,7 @@ pub struct Line {
 impl Line {
     // A line with no byte yet, which keeps at most so many numbers.
     pub fn new(heap: Global, most: usize) -> Self
-        ensures scan { λ r. ⌜ scan-of r ≡ started ⌝ }
-        ensures rest { λ r. ⌜ (r .most ≡ most) × (r .column ≡ 0) ⌝ }
+        ensures { λ r. ⌜ Fresh most r ⌝ }
     {
         Line {
             numbers: Vec::new(heap),
@@ -83,9 +80,7 @@ impl Line {
 
     // One byte more; where there is no memory for a number, nothing changes.
     pub fn push(&mut self, byte: u8) -> Result<(), AllocError>
-        ensures scan { λ r. ⌜ Cases r (λ _. scan-of (now (self .exit)) ≡ after (now (self .entry) .most) (scan-of (now (self .entry))) byte) (λ _. scan-of (now (self .exit)) ≡ scan-of (now (self .entry))) ⌝ }
-        ensures column { λ r. ⌜ Cases r (λ _. now (self .exit) .column ≡ column-after (now (self .entry) .state) (now (self .entry) .column)) (λ _. now (self .exit) .column ≡ now (self .entry) .column) ⌝ }
-        ensures most { λ r. ⌜ now (self .exit) .most ≡ now (self .entry) .most ⌝ }
+        ensures { λ r. ⌜ Cases r (λ _. Pushed (now (self .entry)) byte (now (self .exit))) (λ _. Same (now (self .entry)) (now (self .exit))) ⌝ }
     {
         let column = match self.state {
             State::Stopped(_) => self.column,
@@ -105,7 +100,7 @@ impl Line {
 
     // The numbers that are complete, or where reading stopped. A newline completes the last number.
     pub fn numbers(&self) -> Result<&[u32], Stop>
-        ensures value { λ r. ⌜ Cases r (λ x. (now x ≡ scan-of (now (self .entry)) .numbers) × Goes-on (now (self .entry) .state)) (λ s. (now (self .entry) .state ≡ Stopped (s .fault)) × (s .column ≡ now (self .entry) .column)) ⌝ }
+        ensures value { λ r. ⌜ Cases r (λ x. Complete (scan-of (now (self .entry))) (now x)) (StoppedAt (now (self .entry))) ⌝ }
         ensures law { λ _. ⌜ Lines-are-read ⌝ }
     {
         match self.state {
@@ -126,8 +121,7 @@ impl Line {
 
     // Forgets the bytes so far.
     pub fn clear(&mut self)
-        ensures scan { λ _. ⌜ scan-of (now (self .exit)) ≡ started ⌝ }
-        ensures rest { λ _. ⌜ (now (self .exit) .most ≡ now (self .entry) .most) × (now (self .exit) .column ≡ 0) ⌝ }
+        ensures { λ _. ⌜ Fresh (now (self .entry) .most) (now (self .exit)) ⌝ }
     {
         self.numbers.clear();
         self.state = State::Gap;

@@ -1,9 +1,9 @@
 -- A frame: a place in a term for a part of it, behind the words `pre`. What is met in the part is met in the whole.
-use mathlib.Core.Path.{_≡_, refl, sym, _∙_}
+use mathlib.Core.Path.{_≡_, sym, _∙_}
 use mathlib.Core.List.{List, [], _∷_, _++_, append-assoc}
-use Prim.Native.Nat.{ℕ, _≤_}
+use Prim.Native.Nat.{ℕ}
 use native.Mathlib.Omega.{arith}
-use lib.ListN.{length, length-append}
+use lib.ListN.{length-append}
 use Rattle.reader.specs.declared.refusals.Reason.{Reason}
 use Rattle.reader.specs.declared.refusals.Reason.the-variants.{TooLong, Ended, NoCode, OutOfRange, TooDeep, TooManySteps, LeftOver}
 use Rattle.reader.specs.declared.refusals.Fault.{Fault}

@@ -6,7 +6,7 @@ use Prim.Native.Nat.{ℕ, suc, _+_, _≤_, max}
 use native.Mathlib.Omega.{arith}
 use lib.ListN.{length}
 use Rattle.kat.specs.Programs.{Program, steps, depth, Known}
-use Rattle.reader.specs.Limits.{Limit, numbers, nesting, amount, Keeps}
+use Rattle.reader.specs.Limits.{numbers, nesting, amount, Keeps}
 use Rattle.reader.specs.Faults.{Begins, All}
 
 -- the terms of a kind: their words are read in one way, and one of them is a leaf that keeps every limit

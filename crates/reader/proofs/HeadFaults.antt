@@ -1,5 +1,5 @@
 -- What is met at the first words of a test or a program.
-use mathlib.Core.Path.{_≡_, refl, sym, ap, _∙_}
+use mathlib.Core.Path.{_≡_, refl, sym, ap}
 use mathlib.Core.Logic.{_↔_}
 use mathlib.Core.List.{List, [], _∷_, _++_}
 use Prim.Native.Nat.{ℕ, _<_, _≤_}
@@ -9,7 +9,7 @@ use lib.ListN.{length}
 use Rattle.kat.specs.Programs.{Test, always, never, test, both, any, opposite, Program, guard, step, seq, choice, star, steps, depth, Known}
 use Rattle.kat.specs.Words.{test-words, words}
 use Rattle.reader.specs.declared.refusals.Reason.{Reason}
-use Rattle.reader.specs.declared.refusals.Reason.the-variants.{Ended, NoCode, OutOfRange, TooDeep, TooManySteps}
+use Rattle.reader.specs.declared.refusals.Reason.the-variants.{Ended, NoCode, TooDeep, TooManySteps}
 use Rattle.reader.specs.declared.refusals.Fault.{Fault}
 use Rattle.reader.specs.Limits.{Limit, numbers, nesting, amount, Keeps, TestKeeps}
 use Rattle.reader.specs.Faults.{Begins, Stops, All, AllBut, Breaks, Met}

@@ -1,28 +1,24 @@
 -- What is read of a program, and what is met in it, from what was read of its parts.
-use mathlib.Core.Path.{_≡_, refl, ap, _∙_}
+use mathlib.Core.Path.{_≡_}
 use mathlib.Core.Logic.{_⊎_, inl, inr}
-use mathlib.Core.List.{List, [], _∷_, _++_}
-use Prim.Native.Nat.{ℕ, suc, _+_, _-_, _<_, _≤_}
+use mathlib.Core.List.{List, _∷_}
+use Prim.Native.Nat.{ℕ, suc, _-_, _<_}
 use native.Mathlib.Omega.{arith}
-use Rattle.kat.specs.Programs.{Program, guard, step, steps}
+use Rattle.kat.specs.Programs.{guard, step}
 use Rattle.kat.specs.Words.{words}
 use Rattle.reader.specs.declared.refusals.Fault.{Fault}
 use Rattle.reader.specs.declared.heads.Step as number
 use Rattle.reader.specs.declared.heads.Head.{Head}
 use Rattle.reader.specs.declared.heads.Head.the-variants.{Guard, Step, Sequence, Choice, Star}
 use Rattle.reader.specs.Limits.{Limit, numbers, nesting, amount, Keeps}
-use Rattle.reader.specs.Reading.{head-words, HeadFits, ProgramFault, ProgramIn, TestFault, TestIn}
+use Rattle.reader.specs.Reading.{HeadIn, ProgramFault, ProgramIn, TestFault, TestIn}
 use Rattle.reader.proofs.Frames.{fault-in}
 use Rattle.reader.proofs.Grammar.{Joins}
 use Rattle.reader.proofs.TwoParts.{first-frame, second-frame, joined}
 use Rattle.reader.proofs.OnePart.{part-frame, wrapped}
 use Rattle.reader.proofs.ProgramGrammar.{programs, seqs, choices, stars, guard-frame, guard-keeps}
 
--- the head h stands first in ws, and there is room for it
-abbrev Begun : ℕ → ℕ → Head → List ℕ → List ℕ → Type 0
-Begun d k h ws rest = (ws ≡ head-words h ++ rest) × HeadFits d k h
-
-module _ (d k : ℕ) (h : Head) (ws rest : List ℕ) (b : Begun d k h ws rest) where
+module _ (d k : ℕ) (h : Head) (ws rest : List ℕ) (b : HeadIn d k ws h rest) where
   pub guard-fault : h ≡ Guard → (f : Fault) → TestFault d rest f → ProgramFault d k ws f
   guard-fault e f x = fault-in (guard-frame d k) ws rest f (rw e at (b .0)) x
 
@@ -38,11 +34,11 @@ module _ (d k : ℕ) (h : Head) (ws rest : List ℕ) (b : Begun d k h ws rest) w
       keeps amount = let x = rw e at b in let p : 0 < k = x .1 .1 in omega arith
 
 -- A head of two parts asks for a level.
-two-parts : (d k : ℕ) (h : Head) (ws rest : List ℕ) → (h ≡ Sequence) ⊎ (h ≡ Choice) → Begun d k h ws rest → (w : ℕ) × Joins words (λ p. p) w × (ws ≡ w ∷ rest) × (suc (d - 1) ≡ d)
+two-parts : (d k : ℕ) (h : Head) (ws rest : List ℕ) → (h ≡ Sequence) ⊎ (h ≡ Choice) → HeadIn d k ws h rest → (w : ℕ) × Joins words (λ p. p) w × (ws ≡ w ∷ rest) × (suc (d - 1) ≡ d)
 two-parts d k h ws rest (inl e) b = let x = rw e at b in let p : 0 < d = x .1 in (2, seqs, x .0, omega arith)
 two-parts d k h ws rest (inr e) b = let x = rw e at b in let p : 0 < d = x .1 in (3, choices, x .0, omega arith)
 
-module _ (d k : ℕ) (h : Head) (ws rest : List ℕ) (o : (h ≡ Sequence) ⊎ (h ≡ Choice)) (b : Begun d k h ws rest) where
+module _ (d k : ℕ) (h : Head) (ws rest : List ℕ) (o : (h ≡ Sequence) ⊎ (h ≡ Choice)) (b : HeadIn d k ws h rest) where
   pub first-fault : (f : Fault) → ProgramFault (d - 1) k rest f → ProgramFault d k ws f
   first-fault f x =
       let j = two-parts d k h ws rest o b in
@@ -59,10 +55,10 @@ module _ (d k : ℕ) (h : Head) (ws rest : List ℕ) (o : (h ≡ Sequence) ⊎ (
       let y = joined programs (j .1) (d - 1) d k k′ (r .0) (s .0) ws rest second more (j .3) (j .2) (r .1) (s .1) (r .2) (r .3) (s .2) in
       (j .1 .join (r .0) (s .0), y .0, y .1, omega (arith, j .1 .counts (r .0) (s .0), r .3, s .3))
 
-one-part : (d k : ℕ) (h : Head) (ws rest : List ℕ) → h ≡ Star → Begun d k h ws rest → (ws ≡ 4 ∷ rest) × (suc (d - 1) ≡ d)
+one-part : (d k : ℕ) (h : Head) (ws rest : List ℕ) → h ≡ Star → HeadIn d k ws h rest → (ws ≡ 4 ∷ rest) × (suc (d - 1) ≡ d)
 one-part d k h ws rest e b = let x = rw e at b in let p : 0 < d = x .1 in (x .0, omega arith)
 
-module _ (d k : ℕ) (h : Head) (ws rest : List ℕ) (o : h ≡ Star) (b : Begun d k h ws rest) where
+module _ (d k : ℕ) (h : Head) (ws rest : List ℕ) (o : h ≡ Star) (b : HeadIn d k ws h rest) where
   pub star-fault : (f : Fault) → ProgramFault (d - 1) k rest f → ProgramFault d k ws f
   star-fault f x =
       let p = one-part d k h ws rest o b in

@@ -1,6 +1,6 @@
 -- The grammar of tests.
 use mathlib.Core.Path.{_≡_, refl}
-use mathlib.Core.List.{List, [], _∷_, _++_}
+use mathlib.Core.List.{List, _∷_, _++_}
 use Prim.Native.Nat.{ℕ}
 use native.Mathlib.Omega.{arith}
 use Rattle.kat.specs.Programs.{Test, always, never, test, both, any, opposite, guard}

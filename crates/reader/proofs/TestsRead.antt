@@ -1,7 +1,7 @@
 -- What is read of a test, and what is met in it, from what was read of its parts.
-use mathlib.Core.Path.{_≡_, refl, ap, _∙_}
+use mathlib.Core.Path.{_≡_, refl}
 use mathlib.Core.Logic.{_⊎_, inl, inr}
-use mathlib.Core.List.{List, [], _∷_, _++_}
+use mathlib.Core.List.{List, _∷_}
 use Prim.Native.Nat.{ℕ, suc, _-_, _<_}
 use native.Mathlib.Omega.{arith}
 use Rattle.kat.specs.Programs as terms
@@ -11,16 +11,12 @@ use Rattle.reader.specs.declared.refusals.Fault.{Fault}
 use Rattle.reader.specs.declared.heads.TestHead.{TestHead}
 use Rattle.reader.specs.declared.heads.TestHead.the-variants.{Always, Never, Test, Both, Any, Opposite}
 use Rattle.reader.specs.Limits.{Limit, numbers, nesting, amount, TestKeeps}
-use Rattle.reader.specs.Reading.{test-head-words, TestHeadFits, TestFault, TestIn}
+use Rattle.reader.specs.Reading.{TestHeadIn, TestFault, TestIn}
 use Rattle.reader.proofs.Frames.{fault-in}
 use Rattle.reader.proofs.Grammar.{Joins}
 use Rattle.reader.proofs.TwoParts.{first-frame, second-frame, joined}
 use Rattle.reader.proofs.OnePart.{part-frame, wrapped}
 use Rattle.reader.proofs.TestGrammar.{tests, boths, anys, opposites}
-
--- the head h stands first in ws, and there is room for it
-abbrev TestBegins : ℕ → TestHead → List ℕ → List ℕ → Type 0
-TestBegins d h ws rest = (ws ≡ test-head-words h ++ rest) × TestHeadFits d h
 
 flat-keeps : (d : ℕ) (t : terms.Test) → KnownTest t → test-depth t ≡ 0 → (l : Limit) → TestKeeps d l t
 flat-keeps d t k z numbers = k
@@ -28,17 +24,17 @@ flat-keeps d t k z nesting = omega arith
 flat-keeps d t k z amount = omega arith
 
 -- A head without parts is a test.
-pub test-leaf : (d : ℕ) (h : TestHead) (ws rest : List ℕ) → (h ≡ Always) ⊎ ((h ≡ Never) ⊎ ((n : ℕ) × (h ≡ Test n))) → TestBegins d h ws rest → TestIn d ws rest
+pub test-leaf : (d : ℕ) (h : TestHead) (ws rest : List ℕ) → (h ≡ Always) ⊎ ((h ≡ Never) ⊎ ((n : ℕ) × (h ≡ Test n))) → TestHeadIn d ws h rest → TestIn d ws rest
 test-leaf d h ws rest (inl e) b = let x = rw e at b in (always, x .0, flat-keeps d always tt refl)
 test-leaf d h ws rest (inr (inl e)) b = let x = rw e at b in (never, x .0, flat-keeps d never tt refl)
 test-leaf d h ws rest (inr (inr e)) b = let x = rw (e .1) at b in (test (e .0), x .0, flat-keeps d (test (e .0)) (x .1) refl)
 
 -- A head of two parts asks for a level.
-two-parts : (d : ℕ) (h : TestHead) (ws rest : List ℕ) → (h ≡ Both) ⊎ (h ≡ Any) → TestBegins d h ws rest → (w : ℕ) × Joins test-words guard w × (ws ≡ w ∷ rest) × (suc (d - 1) ≡ d)
+two-parts : (d : ℕ) (h : TestHead) (ws rest : List ℕ) → (h ≡ Both) ⊎ (h ≡ Any) → TestHeadIn d ws h rest → (w : ℕ) × Joins test-words guard w × (ws ≡ w ∷ rest) × (suc (d - 1) ≡ d)
 two-parts d h ws rest (inl e) b = let x = rw e at b in let p : 0 < d = x .1 in (3, boths, x .0, omega arith)
 two-parts d h ws rest (inr e) b = let x = rw e at b in let p : 0 < d = x .1 in (4, anys, x .0, omega arith)
 
-module _ (d : ℕ) (h : TestHead) (ws rest : List ℕ) (o : (h ≡ Both) ⊎ (h ≡ Any)) (b : TestBegins d h ws rest) where
+module _ (d : ℕ) (h : TestHead) (ws rest : List ℕ) (o : (h ≡ Both) ⊎ (h ≡ Any)) (b : TestHeadIn d ws h rest) where
   pub test-first-fault : (f : Fault) → TestFault (d - 1) rest f → TestFault d ws f
   test-first-fault f x =
       let j = two-parts d h ws rest o b in
@@ -55,10 +51,10 @@ module _ (d : ℕ) (h : TestHead) (ws rest : List ℕ) (o : (h ≡ Both) ⊎ (h 
       let y = joined tests (j .1) (d - 1) d 0 0 (r .0) (s .0) ws rest second more (j .3) (j .2) (r .1) (s .1) (r .2) refl (s .2) in
       (j .1 .join (r .0) (s .0), y .0, y .1)
 
-one-part : (d : ℕ) (h : TestHead) (ws rest : List ℕ) → h ≡ Opposite → TestBegins d h ws rest → (ws ≡ 5 ∷ rest) × (suc (d - 1) ≡ d)
+one-part : (d : ℕ) (h : TestHead) (ws rest : List ℕ) → h ≡ Opposite → TestHeadIn d ws h rest → (ws ≡ 5 ∷ rest) × (suc (d - 1) ≡ d)
 one-part d h ws rest e b = let x = rw e at b in let p : 0 < d = x .1 in (x .0, omega arith)
 
-module _ (d : ℕ) (h : TestHead) (ws rest : List ℕ) (o : h ≡ Opposite) (b : TestBegins d h ws rest) where
+module _ (d : ℕ) (h : TestHead) (ws rest : List ℕ) (o : h ≡ Opposite) (b : TestHeadIn d ws h rest) where
   pub opposite-fault : (f : Fault) → TestFault (d - 1) rest f → TestFault d ws f
   opposite-fault f x =
       let p = one-part d h ws rest o b in

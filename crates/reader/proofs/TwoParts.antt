@@ -1,9 +1,9 @@
 -- Terms of two parts: a frame for each part, what is read when both are, and where they are too deep.
 use mathlib.Core.Path.{_≡_, refl, sym, ap, _∙_}
 use mathlib.Core.List.{List, [], _∷_, _++_, append-assoc, append-nil}
-use Prim.Native.Nat.{ℕ, zero, suc, _+_, _≤_, max}
+use Prim.Native.Nat.{ℕ, suc, _+_, _≤_}
 use native.Mathlib.Omega.{arith}
-use Rattle.kat.specs.Programs.{Program, steps, depth, Known}
+use Rattle.kat.specs.Programs.{Program, steps, depth}
 use Rattle.reader.specs.Limits.{Limit, numbers, nesting, amount, Keeps}
 use Rattle.reader.specs.Faults.{All, AllBut, Breaks}
 use Rattle.reader.proofs.Frames.{Frame}

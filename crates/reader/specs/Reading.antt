@@ -60,6 +60,10 @@ HeadFits d k Sequence = 0 < d
 HeadFits d k Choice = 0 < d
 HeadFits d k Star = 0 < d
 
+-- the head h stands first in the words ws, the rest follows it, and there is room for it
+abbrev pub HeadIn : ℕ → ℕ → List ℕ → Head → List ℕ → Type 0
+HeadIn d k ws h rest = (ws ≡ head-words h ++ rest) × HeadFits d k h
+
 abbrev pub test-head-words : TestHead → List ℕ
 test-head-words Always = 0 ∷ []
 test-head-words Never = 1 ∷ []
@@ -75,6 +79,9 @@ TestHeadFits d (Test n) = n < 4
 TestHeadFits d Both = 0 < d
 TestHeadFits d Any = 0 < d
 TestHeadFits d Opposite = 0 < d
+
+abbrev pub TestHeadIn : ℕ → List ℕ → TestHead → List ℕ → Type 0
+TestHeadIn d ws h rest = (ws ≡ test-head-words h ++ rest) × TestHeadFits d h
 
 -- The words ws begin with a test that keeps every limit, and the rest follows it;
 abbrev pub TestIn : ℕ → List ℕ → List ℕ → Type 0

@@ -1,9 +1,9 @@
 // What a program, and a test, begins with.
-ghost use Prim.Native.Nat.{ℕ, _<_};
-ghost use mathlib.Core.List.{_∷_, _++_};
+ghost use Prim.Native.Nat.{_<_};
+ghost use mathlib.Core.List.{_∷_};
 ghost use mathlib.Core.Path.{_≡_};
 ghost use Rattle.std.specs.Results.{Cases};
-ghost use Rattle.reader.specs.Reading.{ProgramFault, TestFault, BadNumber, head-words, HeadFits, test-head-words, TestHeadFits};
+ghost use Rattle.reader.specs.Reading.{BadNumber, HeadIn, ProgramFault, TestFault, TestHeadIn};
 use crate::refusals::Fault;
 use crate::refusals::Reason;
 
@@ -65,7 +65,7 @@ fn number(words: &[u32], limit: u32) -> Result<(u32, &[u32]), Fault>
 
 // The head of the program that the words begin with, and what follows it.
 pub fn head_of(words: &[u32], room: Room) -> Result<(Head, &[u32]), Fault>
-    ensures { λ r. ⌜ Cases r (λ x. (now (words .entry) ≡ head-words (x .0) ++ now (x .1)) × HeadFits (room .depth) (room .steps) (x .0)) (ProgramFault (room .depth) (room .steps) (now (words .entry))) ⌝ }
+    ensures { λ r. ⌜ Cases r (λ x. HeadIn (room .depth) (room .steps) (now (words .entry)) (x .0) (now (x .1))) (ProgramFault (room .depth) (room .steps) (now (words .entry))) ⌝ }
 {
     let left = words.len();
     let Some((code, rest)) = words.split_first() else {
@@ -108,7 +108,7 @@ pub fn head_of(words: &[u32], room: Room) -> Result<(Head, &[u32]), Fault>
 
 // The head of the test that the words begin with, and what follows it, where there is room for so many levels.
 pub fn test_head_of(words: &[u32], depth: u32) -> Result<(TestHead, &[u32]), Fault>
-    ensures { λ r. ⌜ Cases r (λ x. (now (words .entry) ≡ test-head-words (x .0) ++ now (x .1)) × TestHeadFits depth (x .0)) (TestFault depth (now (words .entry))) ⌝ }
+    ensures { λ r. ⌜ Cases r (λ x. TestHeadIn depth (now (words .entry)) (x .0) (now (x .1))) (TestFault depth (now (words .entry))) ⌝ }
 {
     let left = words.len();
     let Some((code, rest)) = words.split_first() else {

@@ -1,5 +1,5 @@
 // Two programs, one after the other.
-ghost use Prim.Native.Nat.{ℕ, _≤_};
+ghost use Prim.Native.Nat.{_≤_};
 ghost use lib.ListN.{length};
 ghost use Rattle.std.specs.Results.{Cases};
 ghost use Rattle.reader.specs.Reading.{IsPair, PairFault, Refused};

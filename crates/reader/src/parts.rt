@@ -1,5 +1,4 @@
 // Reads a program, and a test, to its end.
-ghost use Prim.Native.Nat.{ℕ};
 ghost use Rattle.std.specs.Results.{Cases};
 ghost use Rattle.reader.specs.Reading.{ProgramFault, ProgramIn, TestFault, TestIn};
 use crate::heads::Head;
