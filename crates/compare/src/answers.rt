@@ -1,16 +1,22 @@
 // What is answered to a line of words.
 ghost use mathlib.Core.Path.{_≡_};
 ghost use Rattle.std.specs.declared.option.Option.the-variants.{Some};
-ghost use Rattle.lines.specs.Scanning.{scan-of};
-ghost use Rattle.compare.specs.Answering.{Answered, LineAnswered, fault-text, why-text, answer-text};
+ghost use Rattle.compare.specs.Answering.{Answered, LineAnswered, stop-reason, fault-text, why-text, answer-text};
 use lines::Fault;
 use lines::Line;
 use lines::Stop;
+use reader::MAX_WORDS;
 use reader::Reason;
 use reader::Refusal;
 use reader::RefusalDisplay;
 use reader::read_pair;
 use std::fmt;
+
+// A line keeps as many numbers as two programs may have words, so that more of them are too many.
+const TOO_LONG: Refusal = Refusal {
+    reason: Reason::TooLong,
+    at: MAX_WORDS,
+};
 
 // Why a line is no two programs: it is empty, its bytes are not numbers, or its numbers are not two programs.
 #[derive(Clone, Copy)]
@@ -39,25 +45,23 @@ pub fn answer_words(words: &[u32]) -> Answer
     Answer::NoPrograms(Why::Refused(refusal))
 }
 
+// Why there are no programs in a line where reading stopped.
+fn stop_reason(stop: Stop) -> Why
+    ensures { λ r. ⌜ r ≡ stop-reason (stop .fault) (stop .column) ⌝ }
+{
+    match stop.fault {
+        Fault::TooMany => Why::Refused(TOO_LONG),
+        Fault::NotNumber | Fault::TooLarge => Why::NoNumbers(stop),
+    }
+}
+
 // The answer to a line that was read to its end.
 pub fn answer_line(line: &Line) -> Answer
-    ensures { λ r. ⌜ LineAnswered (scan-of (now (line .entry))) r ⌝ }
+    ensures { λ r. ⌜ LineAnswered (now (line .entry)) r ⌝ }
 {
     match line.numbers() {
         Ok(words) => answer_words(words),
-        Err(
-            Stop {
-                fault: Fault::TooMany,
-                column: _,
-            },
-        ) => {
-            let refusal = Refusal {
-                reason: Reason::TooLong,
-                at: reader::MAX_WORDS,
-            };
-            Answer::NoPrograms(Why::Refused(refusal))
-        }
-        Err(stop) => Answer::NoPrograms(Why::NoNumbers(stop)),
+        Err(stop) => Answer::NoPrograms(stop_reason(stop)),
     }
 }
 

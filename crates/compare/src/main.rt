@@ -2,6 +2,8 @@
 mod answers;
 mod lines_of;
 mod options;
+#[cfg(test)]
+mod tests;
 
 use lines_of::Trouble;
 use lines_of::answer_lines;

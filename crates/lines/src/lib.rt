@@ -128,3 +128,6 @@ impl Line {
         self.column = 0;
     }
 }
+
+#[cfg(test)]
+mod tests;
