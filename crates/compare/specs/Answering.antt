@@ -14,7 +14,7 @@ use Rattle.lines.specs.declared.Line.{Line}
 use Rattle.lines.specs.Scanning.{scan-of}
 use Rattle.reader.specs.declared.refusals.Reason.the-variants.{TooLong}
 use Rattle.reader.specs.Reading as reader
-use Rattle.reader.specs.Texts.{reason-text}
+use Rattle.reader.specs.Texts.{refusal-text}
 use Rattle.compare.specs.declared.answers.Why.{Why}
 use Rattle.compare.specs.declared.answers.Why.the-variants.{Empty, NoNumbers, Refused}
 use Rattle.compare.specs.declared.answers.Answer.{Answer}
@@ -45,7 +45,7 @@ fault-text TooMany = codes "too long"
 abbrev pub why-text : Why → List ℕ
 why-text Empty = codes "an empty line"
 why-text (NoNumbers stop) = fault-text (stop .fault) ++ (codes ", at column " ++ decimal (stop .column))
-why-text (Refused r) = reason-text (r .reason) ++ (codes ", at word " ++ decimal (r .at))
+why-text (Refused r) = refusal-text r
 
 abbrev pub answer-text : Answer → List ℕ
 answer-text TwoPrograms = codes "two programs"

@@ -1,12 +1,12 @@
 // compare: says of each line of words whether it is two programs.
 mod answers;
-mod lines_of;
+mod filter;
 mod options;
 #[cfg(test)]
 mod tests;
 
-use lines_of::Trouble;
-use lines_of::answer_lines;
+use filter::Trouble;
+use filter::answer_lines;
 use options::Command;
 use options::Misuse;
 use options::MisuseDisplay;

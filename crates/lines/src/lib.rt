@@ -59,9 +59,12 @@ fn take(state: State, byte: u8) -> Effect
 // The numbers of a line, as its bytes come.
 #[derive(Drop)]
 pub struct Line {
+    // the numbers that are complete
     numbers: Vec<u32>,
+    // how many of them it keeps at most
     most: usize,
     state: State,
+    // how many bytes came until reading stopped
     column: usize,
 }
 

@@ -9,7 +9,7 @@ use Rattle.reader.specs.declared.refusals.Reason.the-variants.{TooLong, Ended,
 use Rattle.reader.specs.declared.refusals.Fault.{Fault}
 use Rattle.reader.specs.Limits.{Limit, numbers, nesting, amount}
 use Rattle.reader.specs.Faults.{Begins, Stops, All, AllBut, Breaks, Met}
-use Rattle.reader.specs.Reading.{Inside, FaultIn}
+use Rattle.reader.specs.Parts.{Inside, FaultIn}
 
 -- wrap: a whole with that part, closed by the words `post`; down: any whole that begins with `pre` has a part there
 pub record Frame {A B : Type 0} (code : A → List ℕ) (code′ : B → List ℕ) (K : Limit → A → Type 0) (K′ : Limit → B → Type 0) (pre : List ℕ) : Type 0 where

@@ -13,7 +13,7 @@ use Rattle.reader.specs.declared.refusals.Reason.the-variants.{Ended, NoCode, 
 use Rattle.reader.specs.declared.refusals.Fault.{Fault}
 use Rattle.reader.specs.Limits.{Limit, numbers, nesting, amount, Keeps, TestKeeps}
 use Rattle.reader.specs.Faults.{Begins, Stops, All, AllBut, Breaks, Met}
-use Rattle.reader.specs.Reading.{FaultIn, BadNumber, Inside, ProgramFault, TestFault}
+use Rattle.reader.specs.Parts.{FaultIn, BadNumber, Inside, ProgramFault, TestFault}
 use Rattle.reader.proofs.Grammar.{Grammar, opens}
 use Rattle.reader.proofs.TwoParts.{join-too-deep}
 use Rattle.reader.proofs.OnePart.{wrap-too-deep}

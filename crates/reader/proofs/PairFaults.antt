@@ -14,7 +14,8 @@ use Rattle.reader.specs.declared.refusals.Reason.the-variants.{TooLong, Ended,
 use Rattle.reader.specs.declared.refusals.Fault.{Fault}
 use Rattle.reader.specs.Limits.{Limit, numbers, nesting, amount, Keeps, PairKeeps}
 use Rattle.reader.specs.Faults.{All, Stops, Breaks, Met}
-use Rattle.reader.specs.Reading.{ProgramFault, ProgramIn, IsPair, pair-words, PairFault, Refused}
+use Rattle.reader.specs.Reading.{IsPair, pair-words, Refused}
+use Rattle.reader.specs.Parts.{ProgramFault, ProgramIn, PairFault}
 use Rattle.reader.proofs.Frames.{Frame, fault-in}
 
 first-of-pair : Frame words pair-words (Keeps 64 12) PairKeeps []

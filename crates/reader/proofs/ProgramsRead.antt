@@ -11,7 +11,8 @@ use Rattle.reader.specs.declared.heads.Step as number
 use Rattle.reader.specs.declared.heads.Head.{Head}
 use Rattle.reader.specs.declared.heads.Head.the-variants.{Guard, Step, Sequence, Choice, Star}
 use Rattle.reader.specs.Limits.{Limit, numbers, nesting, amount, Keeps}
-use Rattle.reader.specs.Reading.{HeadIn, ProgramFault, ProgramIn, TestFault, TestIn}
+use Rattle.reader.specs.Heads.{HeadIn}
+use Rattle.reader.specs.Parts.{ProgramFault, ProgramIn, TestFault, TestIn}
 use Rattle.reader.proofs.Frames.{fault-in}
 use Rattle.reader.proofs.Grammar.{Joins}
 use Rattle.reader.proofs.TwoParts.{first-frame, second-frame, joined}

@@ -11,7 +11,8 @@ use Rattle.reader.specs.declared.refusals.Fault.{Fault}
 use Rattle.reader.specs.declared.heads.TestHead.{TestHead}
 use Rattle.reader.specs.declared.heads.TestHead.the-variants.{Always, Never, Test, Both, Any, Opposite}
 use Rattle.reader.specs.Limits.{Limit, numbers, nesting, amount, TestKeeps}
-use Rattle.reader.specs.Reading.{TestHeadIn, TestFault, TestIn}
+use Rattle.reader.specs.Heads.{TestHeadIn}
+use Rattle.reader.specs.Parts.{TestFault, TestIn}
 use Rattle.reader.proofs.Frames.{fault-in}
 use Rattle.reader.proofs.Grammar.{Joins}
 use Rattle.reader.proofs.TwoParts.{first-frame, second-frame, joined}

@@ -3,7 +3,8 @@ ghost use Prim.Native.Nat.{_<_};
 ghost use mathlib.Core.List.{_∷_};
 ghost use mathlib.Core.Path.{_≡_};
 ghost use Rattle.std.specs.Results.{Cases};
-ghost use Rattle.reader.specs.Reading.{BadNumber, HeadIn, ProgramFault, TestFault, TestHeadIn};
+ghost use Rattle.reader.specs.Heads.{HeadIn, TestHeadIn};
+ghost use Rattle.reader.specs.Parts.{BadNumber, ProgramFault, TestFault};
 use crate::refusals::Fault;
 use crate::refusals::Reason;
 
@@ -13,7 +14,7 @@ const TESTS: u32 = 4;
 const STEPS: u32 = 8;
 
 // The number of a step.
-#[derive(Clone, Copy, PartialEq, Eq, Debug)]
+#[derive(Clone, Copy)]
 pub struct Step(pub u32);
 
 // The beginning of a program. What follows is a test behind a guard, and one or two programs behind the last three.
@@ -37,61 +38,38 @@ pub enum TestHead {
     Opposite,
 }
 
-// How many levels deeper a program may go, and how many steps it may have.
-#[derive(Clone, Copy)]
-pub struct Room {
-    pub depth: u32,
-    pub steps: u32,
-}
-
 // The number that the words begin with, below a limit, and what follows it.
 fn number(words: &[u32], limit: u32) -> Result<(u32, &[u32]), Fault>
     ensures { λ r. ⌜ Cases r (λ x. (now (words .entry) ≡ x .0 ∷ now (x .1)) × (x .0 < limit)) (BadNumber limit (now (words .entry))) ⌝ }
 {
     let Some((n, rest)) = words.split_first() else {
-        return Err(Fault {
-            reason: Reason::Ended,
-            left: 0,
-        });
+        return Err(Fault::at(Reason::Ended, words));
     };
     if *n >= limit {
-        return Err(Fault {
-            reason: Reason::OutOfRange,
-            left: words.len(),
-        });
+        return Err(Fault::at(Reason::OutOfRange, words));
     }
     Ok((*n, rest))
 }
 
-// The head of the program that the words begin with, and what follows it.
-pub fn head_of(words: &[u32], room: Room) -> Result<(Head, &[u32]), Fault>
-    ensures { λ r. ⌜ Cases r (λ x. HeadIn (room .depth) (room .steps) (now (words .entry)) (x .0) (now (x .1))) (ProgramFault (room .depth) (room .steps) (now (words .entry))) ⌝ }
+// The head of the program that the words begin with, and what follows it, where there is room for so many levels and steps.
+pub fn head_of(words: &[u32], depth: u32, steps: u32) -> Result<(Head, &[u32]), Fault>
+    ensures { λ r. ⌜ Cases r (λ x. HeadIn depth steps (now (words .entry)) (x .0) (now (x .1))) (ProgramFault depth steps (now (words .entry))) ⌝ }
 {
-    let left = words.len();
     let Some((code, rest)) = words.split_first() else {
-        return Err(Fault {
-            reason: Reason::Ended,
-            left,
-        });
+        return Err(Fault::at(Reason::Ended, words));
     };
     match *code {
         0 => Ok((Head::Guard, rest)),
         1 => {
-            if room.steps == 0 {
-                return Err(Fault {
-                    reason: Reason::TooManySteps,
-                    left,
-                });
+            if steps == 0 {
+                return Err(Fault::at(Reason::TooManySteps, words));
             }
             let (n, rest) = number(rest, STEPS)?;
             Ok((Head::Step(Step(n)), rest))
         }
         2..=4 => {
-            if room.depth == 0 {
-                return Err(Fault {
-                    reason: Reason::TooDeep,
-                    left,
-                });
+            if depth == 0 {
+                return Err(Fault::at(Reason::TooDeep, words));
             }
             match *code {
                 2 => Ok((Head::Sequence, rest)),
@@ -99,10 +77,7 @@ pub fn head_of(words: &[u32], room: Room) -> Result<(Head, &[u32]), Fault>
                 _ => Ok((Head::Star, rest)),
             }
         }
-        _ => Err(Fault {
-            reason: Reason::NoCode,
-            left,
-        }),
+        _ => Err(Fault::at(Reason::NoCode, words)),
     }
 }
 
@@ -110,12 +85,8 @@ pub fn head_of(words: &[u32], room: Room) -> Result<(Head, &[u32]), Fault>
 pub fn test_head_of(words: &[u32], depth: u32) -> Result<(TestHead, &[u32]), Fault>
     ensures { λ r. ⌜ Cases r (λ x. TestHeadIn depth (now (words .entry)) (x .0) (now (x .1))) (TestFault depth (now (words .entry))) ⌝ }
 {
-    let left = words.len();
     let Some((code, rest)) = words.split_first() else {
-        return Err(Fault {
-            reason: Reason::Ended,
-            left,
-        });
+        return Err(Fault::at(Reason::Ended, words));
     };
     match *code {
         0 => Ok((TestHead::Always, rest)),
@@ -126,10 +97,7 @@ pub fn test_head_of(words: &[u32], depth: u32) -> Result<(TestHead, &[u32]), Fau
         }
         3..=5 => {
             if depth == 0 {
-                return Err(Fault {
-                    reason: Reason::TooDeep,
-                    left,
-                });
+                return Err(Fault::at(Reason::TooDeep, words));
             }
             match *code {
                 3 => Ok((TestHead::Both, rest)),
@@ -137,9 +105,6 @@ pub fn test_head_of(words: &[u32], depth: u32) -> Result<(TestHead, &[u32]), Fau
                 _ => Ok((TestHead::Opposite, rest)),
             }
         }
-        _ => Err(Fault {
-            reason: Reason::NoCode,
-            left,
-        }),
+        _ => Err(Fault::at(Reason::NoCode, words)),
     }
 }

@@ -5,7 +5,6 @@ mod parts;
 mod refusals;
 
 pub use heads::Head;
-pub use heads::Room;
 pub use heads::Step;
 pub use heads::TestHead;
 pub use heads::head_of;

@@ -2,8 +2,8 @@
 ghost use Prim.Native.Nat.{_≤_};
 ghost use lib.ListN.{length};
 ghost use Rattle.std.specs.Results.{Cases};
-ghost use Rattle.reader.specs.Reading.{IsPair, PairFault, Refused};
-use crate::heads::Room;
+ghost use Rattle.reader.specs.Reading.{IsPair, Refused};
+ghost use Rattle.reader.specs.Parts.{PairFault};
 use crate::parts::after_program;
 use crate::refusals::Fault;
 use crate::refusals::Reason;
@@ -29,17 +29,10 @@ fn two_programs(words: &[u32]) -> Result<Pair, Fault>
     requires { ⌜ length (now words) ≤ 4096 ⌝ }
     ensures { λ r. ⌜ Cases r (IsPair (now (words .entry))) (PairFault (now (words .entry))) ⌝ }
 {
-    let room = Room {
-        depth: MAX_DEPTH,
-        steps: MAX_STEPS,
-    };
-    let (second, first_left) = after_program(words, room)?;
-    let (rest, second_left) = after_program(second, room)?;
+    let (second, first_left) = after_program(words, MAX_DEPTH, MAX_STEPS)?;
+    let (rest, second_left) = after_program(second, MAX_DEPTH, MAX_STEPS)?;
     if !rest.is_empty() {
-        return Err(Fault {
-            reason: Reason::LeftOver,
-            left: rest.len(),
-        });
+        return Err(Fault::at(Reason::LeftOver, rest));
     }
     Ok(Pair {
         second: words.len() - second.len(),

@@ -1,8 +1,7 @@
 // Reads a program, and a test, to its end.
 ghost use Rattle.std.specs.Results.{Cases};
-ghost use Rattle.reader.specs.Reading.{ProgramFault, ProgramIn, TestFault, TestIn};
+ghost use Rattle.reader.specs.Parts.{ProgramFault, ProgramIn, TestFault, TestIn};
 use crate::heads::Head;
-use crate::heads::Room;
 use crate::heads::TestHead;
 use crate::heads::head_of;
 use crate::heads::test_head_of;
@@ -23,34 +22,21 @@ pub(crate) fn after_test(words: &[u32], depth: u32) -> Result<&[u32], Fault>
     }
 }
 
-// What follows the program that the words begin with, and how many steps there is room for then.
-pub(crate) fn after_program(words: &[u32], room: Room) -> Result<(&[u32], u32), Fault>
-    ensures { λ r. ⌜ Cases r (λ x. ProgramIn (room .depth) (room .steps) (now (words .entry)) (now (x .0)) (x .1)) (ProgramFault (room .depth) (room .steps) (now (words .entry))) ⌝ }
+// What follows the program that the words begin with, and how many of the steps that there is room for are left.
+pub(crate) fn after_program(words: &[u32], depth: u32, steps: u32) -> Result<(&[u32], u32), Fault>
+    ensures { λ r. ⌜ Cases r (λ x. ProgramIn depth steps (now (words .entry)) (now (x .0)) (x .1)) (ProgramFault depth steps (now (words .entry))) ⌝ }
 {
-    let (head, rest) = head_of(words, room)?;
+    let (head, rest) = head_of(words, depth, steps)?;
     match head {
         Head::Guard => {
-            let rest = after_test(rest, room.depth)?;
-            Ok((rest, room.steps))
+            let rest = after_test(rest, depth)?;
+            Ok((rest, steps))
         }
-        Head::Step(_) => Ok((rest, room.steps - 1)),
+        Head::Step(_) => Ok((rest, steps - 1)),
         Head::Sequence | Head::Choice => {
-            let depth = room.depth - 1;
-            let (second, steps) = after_program(
-                rest,
-                Room {
-                    depth,
-                    steps: room.steps,
-                },
-            )?;
-            after_program(second, Room { depth, steps })
+            let (second, steps) = after_program(rest, depth - 1, steps)?;
+            after_program(second, depth - 1, steps)
         }
-        Head::Star => after_program(
-            rest,
-            Room {
-                depth: room.depth - 1,
-                steps: room.steps,
-            },
-        ),
+        Head::Star => after_program(rest, depth - 1, steps),
     }
 }

@@ -1,10 +1,8 @@
 // Why words are not two programs in range.
-ghost use mathlib.Core.List.{_++_};
 ghost use mathlib.Core.Path.{_≡_};
-ghost use Rattle.std.specs.Written.{decimal};
 ghost use Rattle.std.specs.declared.option.Option.the-variants.{Some};
-ghost use lib.Chars.{codes};
-ghost use Rattle.reader.specs.Texts.{reason-text};
+ghost use lib.ListN.{length};
+ghost use Rattle.reader.specs.Texts.{reason-text, refusal-text};
 use std::fmt;
 
 // What was met first, reading from the left.
@@ -33,6 +31,18 @@ pub struct Fault {
     pub left: usize,
 }
 
+impl Fault {
+    // The reason, met at the first of these words.
+    pub(crate) fn at(reason: Reason, words: &[u32]) -> Fault
+        ensures { λ r. ⌜ r ≡ record { reason = reason; left = length (now (words .entry)) } ⌝ }
+    {
+        Fault {
+            reason,
+            left: words.len(),
+        }
+    }
+}
+
 impl Reason {
     // The reason in words.
     pub fn text(self) -> &'static str
@@ -51,7 +61,7 @@ impl Reason {
 }
 
 pub impl fmt::Display for Refusal as RefusalDisplay {
-    ghost shown = { λ r. Some (reason-text (r .reason) ++ (codes ", at word " ++ decimal (r .at))) };
+    ghost shown = { λ r. Some (refusal-text r) };
 
     fn fmt<W: fmt::Write>(&self, f: &mut fmt::Formatter<W>) -> fmt::Result {
         let reason = self.reason.text();

@@ -6,18 +6,18 @@ use Rattle.reader.proofs.ProgramGrammar.{programs}
 use Rattle.reader.proofs.heads.head_of.Needs as need
 
 pub returns-in-rest : need.returns-in-rest
-returns-in-rest c = ended programs _ _ _ (nil-from-length _ (c .in-rest .ensures tt .cases))
+returns-in-rest c = rw (c .at .ensures) (ended programs _ _ _ (nil-from-length _ (c .in-rest .ensures tt .cases)))
 
-pub returns-then-room-eq0 : need.returns-then-room-eq0
-returns-then-room-eq0 c = too-many-steps _ _ _ _ (c .if-room-eq0 .taken) (rw (c .in-1 .is) at (c .in-Some .ensures tt .cases .0))
+pub returns-then-steps-eq0 : need.returns-then-steps-eq0
+returns-then-steps-eq0 c = rw (c .at-then-steps-eq0 .ensures) (too-many-steps _ _ _ _ (c .if-steps-eq0 .taken) (rw (c .in-1 .is) at (c .in-Some .ensures tt .cases .0)))
 
 pub returns-in-Break-n : need.returns-in-Break-n
 returns-in-Break-n c =
     let p = err-from-errBy (c .from-residual .result) (c .from-residual .ensures .1) in
     rw (p .1, p .2) (bad-step _ _ _ _ _ (omega arith) (rw (c .in-1 .is) at (c .in-Some .ensures tt .cases .0)) (c .in-Break-n .ensures tt))
 
-pub returns-then-room-eq0-2 : need.returns-then-room-eq0-2
-returns-then-room-eq0-2 c = program-too-deep _ _ _ _ _ (omega arith) (omega arith) (c .if-room-eq0-2 .taken) (c .in-Some .ensures tt .cases .0)
+pub returns-then-depth-eq0 : need.returns-then-depth-eq0
+returns-then-depth-eq0 c = rw (c .at-then-depth-eq0 .ensures) (program-too-deep _ _ _ _ _ (omega arith) (omega arith) (c .if-depth-eq0 .taken) (c .in-Some .ensures tt .cases .0))
 
 pub returns-in-rest-code : need.returns-in-rest-code
-returns-in-rest-code c = program-no-code _ _ _ _ _ (omega arith) (c .in-Some .ensures tt .cases .0)
+returns-in-rest-code c = rw (c .at-in-rest-code .ensures) (program-no-code _ _ _ _ _ (omega arith) (c .in-Some .ensures tt .cases .0))

@@ -6,7 +6,7 @@ use Rattle.reader.proofs.TestGrammar.{tests}
 use Rattle.reader.proofs.heads.test_head_of.Needs as need
 
 pub returns-in-rest : need.returns-in-rest
-returns-in-rest c = ended tests _ 0 _ (nil-from-length _ (c .in-rest .ensures tt .cases))
+returns-in-rest c = rw (c .at .ensures) (ended tests _ 0 _ (nil-from-length _ (c .in-rest .ensures tt .cases)))
 
 pub returns-in-Break-n : need.returns-in-Break-n
 returns-in-Break-n c =
@@ -14,7 +14,7 @@ returns-in-Break-n c =
     rw (p .1, p .2) (bad-test _ _ _ _ (rw (c .in-2 .is) at (c .in-Some .ensures tt .cases .0)) (c .in-Break-n .ensures tt))
 
 pub returns-then-depth-eq0 : need.returns-then-depth-eq0
-returns-then-depth-eq0 c = test-too-deep _ _ _ _ (omega arith) (omega arith) (c .if-depth-eq0 .taken) (c .in-Some .ensures tt .cases .0)
+returns-then-depth-eq0 c = rw (c .at-then-depth-eq0 .ensures) (test-too-deep _ _ _ _ (omega arith) (omega arith) (c .if-depth-eq0 .taken) (c .in-Some .ensures tt .cases .0))
 
 pub returns-in-rest-code : need.returns-in-rest-code
-returns-in-rest-code c = test-no-code _ _ _ _ (omega arith) (c .in-Some .ensures tt .cases .0)
+returns-in-rest-code c = rw (c .at-in-rest-code .ensures) (test-no-code _ _ _ _ (omega arith) (c .in-Some .ensures tt .cases .0))

@@ -14,7 +14,7 @@ returns-in-Break-rest c =
     rw (p .1, p .2) (second-fails _ _ _ _ (c .in-Continue-second .ensures tt) (c .in-Break-rest .ensures tt))
 
 pub returns-then-not-is-empty : need.returns-then-not-is-empty
-returns-then-not-is-empty c = left-over _ _ _ _ _ (c .in-Continue-second .ensures tt) (c .in-Continue-rest .ensures tt) (search needs)
+returns-then-not-is-empty c = rw (c .at .ensures) (left-over _ _ _ _ _ (c .in-Continue-second .ensures tt) (c .in-Continue-rest .ensures tt) (search needs))
 
 pub sub-result : need.sub-result
 sub-result c = rest-shorter _ _ _ _ _ (c .in-Continue-second .ensures tt)

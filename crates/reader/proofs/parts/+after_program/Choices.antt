@@ -2,4 +2,4 @@
 use Rattle.reader.proofs.parts.+after_program.Given as given
 
 abbrev pub μ-after-program : given.MeasureT-after-program
-μ-after-program l = l .room .depth
+μ-after-program l = l .depth

@@ -1,4 +1,4 @@
-// Answers lines, as they are read.
+// Lines in, answers out.
 use crate::answers::AnswerDisplay;
 use crate::answers::answer_line;
 use lines::Line;
@@ -8,7 +8,7 @@ use std::io;
 use std::io::Read;
 use std::io::Write;
 
-// What went wrong between the lines.
+// What ended it early.
 #[derive(Drop)]
 pub enum Trouble {
     Input(io::Error),
