@@ -85,7 +85,7 @@ one-program (star a) (choice c d) x y e = (cc, cc)
 one-program (star a) (star c) x y e = let f = one-program a c x y (cc) in (cc, cc)
 
 pub unique-reading : Unique-reading
-unique-reading s p q p′ q′ r r′ =
-    let f = one-program p p′ (words q) (words q′) (sym (r .are) ∙ r′ .are) in
+unique-reading p q p′ q′ e =
+    let f = one-program p p′ (words q) (words q′) e in
     let g = one-program q q′ [] [] (append-nil (words q) ∙ f .1 ∙ sym (append-nil (words q′))) in
     (f .0, g .0)

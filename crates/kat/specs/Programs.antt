@@ -4,9 +4,23 @@
 --                 either of two, one again and again (any number of times, also never)
 --     steps       how many steps are written in a program
 --     depth       how deep a program stands; a leaf is 0 deep
---     Known       tests have numbers from 0 to 3, steps from 0 to 7
---     InRange     known, at most 64 deep, and at most 12 steps written
+--     Known       its tests have numbers from 0 to 3, its steps from 0 to 7
+--     Limit       what a program may have to keep: known tests and steps, not too many levels, not too many steps written
+--     Keeps       it keeps a limit, where there is room for d levels and k steps
+--     InRange     it keeps each limit: known, at most 64 deep, at most 12 steps written
 use Prim.Native.Nat.{ℕ, suc, _+_, _<_, _≤_, max}
+
+abbrev pub test-count : ℕ
+test-count = 4
+
+abbrev pub step-count : ℕ
+step-count = 8
+
+abbrev pub max-depth : ℕ
+max-depth = 64
+
+abbrev pub max-steps : ℕ
+max-steps = 12
 
 pub data Test : Type 0 where
   always : Test
@@ -49,19 +63,27 @@ depth (star p) = suc (depth p)
 abbrev pub KnownTest : Test → Type 0
 KnownTest always = Unit {0}
 KnownTest never = Unit {0}
-KnownTest (test n) = n < 4
+KnownTest (test n) = n < test-count
 KnownTest (both s t) = KnownTest s × KnownTest t
 KnownTest (any s t) = KnownTest s × KnownTest t
 KnownTest (opposite t) = KnownTest t
 
 abbrev pub Known : Program → Type 0
 Known (guard t) = KnownTest t
-Known (step n) = n < 8
+Known (step n) = n < step-count
 Known (seq p q) = Known p × Known q
 Known (choice p q) = Known p × Known q
 Known (star p) = Known p
 
-pub record InRange (p : Program) : Type 0 where
-  pub known : Known p
-  pub shallow : depth p ≤ 64
-  pub few : steps p ≤ 12
+pub data Limit : Type 0 where
+  known : Limit
+  shallow : Limit
+  few : Limit
+
+abbrev pub Keeps : ℕ → ℕ → Limit → Program → Type 0
+Keeps d k known p = Known p
+Keeps d k shallow p = depth p ≤ d
+Keeps d k few p = steps p ≤ k
+
+abbrev pub InRange : Program → Type 0
+InRange p = (l : Limit) → Keeps max-depth max-steps l p

@@ -1,17 +1,17 @@
 -- The theory: what is true of every program, trace and sense. Each statement is proved, since a contract asks for `Theory`.
 use mathlib.Core.Path.{_≡_}
 use mathlib.Core.Logic.{_↔_}
-use mathlib.Core.List.{List}
+use mathlib.Core.List.{_++_}
 use Prim.Native.Nat.{ℕ}
 use lib.ListN.{length}
 use Rattle.kat.specs.Programs.{Program, seq, choice, star, Known}
 use Rattle.kat.specs.Traces.{Trace, Has, KnownTrace}
 use Rattle.kat.specs.Senses.{Sense, Reaches, AtMostIn, AtMost, AlikeIn, Alike}
-use Rattle.kat.specs.Words.{TwoPrograms}
+use Rattle.kat.specs.Words.{words}
 
 -- Words are at most two programs.
 abbrev pub Unique-reading : Type 0
-Unique-reading = (s : List ℕ) (p q p′ q′ : Program) → TwoPrograms s p q → TwoPrograms s p′ q′ → (p ≡ p′) × (q ≡ q′)
+Unique-reading = (p q p′ q′ : Program) → words p ++ words q ≡ words p′ ++ words q′ → (p ≡ p′) × (q ≡ q′)
 
 -- Programs with the same traces come to the same in every sense.
 abbrev pub Traces-decide : Type 0
@@ -52,13 +52,20 @@ fill f (in-star c) = star (fill f c)
 abbrev pub Substitutes : (Program → Program → Type 0) → Type 0
 Substitutes R = (c : Context) (f g : ℕ → Program) → ((n : ℕ) → R (f n) (g n)) → R (fill f c) (fill g c)
 
--- A loop is the least, under R: what takes in q, and itself and then p, takes in q and then p again and again.
-abbrev pub Star-least : (Program → Program → Type 0) → Type 0
-Star-least R = (p q r : Program) → R (choice q (seq r p)) r → R (seq q (star p)) r
+-- r takes in q, and itself and then p; and the mirrored: q, and p and then itself
+abbrev pub Takes-in : (Program → Program → Type 0) → Program → Program → Program → Type 0
+Takes-in R p q r = R (choice q (seq r p)) r
 
--- The mirrored law: what takes in q, and p and then itself, takes in p again and again and then q.
+abbrev pub Takes-in-before : (Program → Program → Type 0) → Program → Program → Program → Type 0
+Takes-in-before R p q r = R (choice q (seq p r)) r
+
+-- A loop is the least: q and then p again and again takes in q, and itself and then p, and what does takes it in.
+abbrev pub Star-least : (Program → Program → Type 0) → Type 0
+Star-least R = (p q : Program) → Takes-in R p q (seq q (star p)) × ((r : Program) → Takes-in R p q r → R (seq q (star p)) r)
+
+-- The mirrored law, of p again and again and then q.
 abbrev pub Star-least-before : (Program → Program → Type 0) → Type 0
-Star-least-before R = (p q r : Program) → R (choice q (seq p r)) r → R (seq (star p) q) r
+Star-least-before R = (p q : Program) → Takes-in-before R p q (seq (star p) q) × ((r : Program) → Takes-in-before R p q r → R (seq (star p) q) r)
 
 pub record Theory : Type 0 where
   pub unique-reading : Unique-reading

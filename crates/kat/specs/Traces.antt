@@ -3,12 +3,12 @@
 --     Move        a step, and which tests hold after it
 --     Trace       which tests hold at first, and then moves
 --     Has         which traces a program has
---     KnownTrace  atoms below 16 and steps below 8: all that programs with known tests and steps can tell apart
+--     KnownTrace  atoms below 16, in which only tests below 4 hold, and steps below 8
 use mathlib.Core.Bool.{Bool, true, false, _&&_, _||_, not}
 use mathlib.Core.List.{List, [], _∷_, _++_}
-use Prim.Native.Nat.{ℕ, zero, suc, _/_, _%_, _<_}
+use Prim.Native.Nat.{ℕ, zero, suc, _/_, _%_, _^_, _<_}
 use lib.Dec.{eqb, T}
-use Rattle.kat.specs.Programs.{Test, always, never, test, both, any, opposite, Program, guard, step, seq, choice, star}
+use Rattle.kat.specs.Programs.{Test, always, never, test, both, any, opposite, Program, guard, step, seq, choice, star, test-count, step-count}
 
 abbrev pub bit : ℕ → ℕ → Bool
 bit zero a = eqb (a % 2) 1
@@ -49,7 +49,7 @@ pub data Has : Program → Trace → Type 0 where
 
 abbrev pub KnownMoves : List Move → Type 0
 KnownMoves [] = Unit {0}
-KnownMoves (m ∷ ms) = (m .does < 8) × (m .after < 16) × KnownMoves ms
+KnownMoves (m ∷ ms) = (m .does < step-count) × (m .after < 2 ^ test-count) × KnownMoves ms
 
 abbrev pub KnownTrace : Trace → Type 0
-KnownTrace t = (t .starts < 16) × KnownMoves (t .moves)
+KnownTrace t = (t .starts < 2 ^ test-count) × KnownMoves (t .moves)

@@ -13,6 +13,9 @@ use Prim.Native.Nat.{ℕ, _≤_}
 use lib.ListN.{length}
 use Rattle.kat.specs.Programs.{Test, always, never, test, both, any, opposite, Program, guard, step, seq, choice, star, InRange}
 
+abbrev pub max-words : ℕ
+max-words = 4096
+
 abbrev pub test-words : Test → List ℕ
 test-words always = 0 ∷ []
 test-words never = 1 ∷ []
@@ -32,4 +35,4 @@ pub record TwoPrograms (s : List ℕ) (p q : Program) : Type 0 where
   pub are : s ≡ words p ++ words q
   pub first : InRange p
   pub second : InRange q
-  pub short : length s ≤ 4096
+  pub short : length s ≤ max-words

@@ -7,9 +7,9 @@ use lib.ListN.{length-append}
 use Rattle.reader.specs.declared.refusals.Reason.{Reason}
 use Rattle.reader.specs.declared.refusals.Reason.the-variants.{TooLong, Ended, NoCode, OutOfRange, TooDeep, TooManySteps, LeftOver}
 use Rattle.reader.specs.declared.refusals.Fault.{Fault}
-use Rattle.reader.specs.Limits.{Limit, numbers, nesting, amount}
+use Rattle.kat.specs.Programs.{Limit, known, shallow, few}
 use Rattle.reader.specs.Faults.{Begins, Stops, All, AllBut, Breaks, Met}
-use Rattle.reader.specs.Parts.{Inside, FaultIn}
+use Rattle.reader.specs.Parts.{FaultIn}
 
 -- wrap: a whole with that part, closed by the words `post`; down: any whole that begins with `pre` has a part there
 pub record Frame {A B : Type 0} (code : A → List ℕ) (code′ : B → List ℕ) (K : Limit → A → Type 0) (K′ : Limit → B → Type 0) (pre : List ℕ) : Type 0 where
@@ -45,16 +45,16 @@ module _ {A B : Type 0} {code : A → List ℕ} {code′ : B → List ℕ} {K : 
     rw append-assoc (stops-in (K l) (K′ l) (λ a b d. d l) (u ++ w ∷ []) (m .2)),
   )
 
-  met-in : (why : Reason) (u v : List ℕ) → Inside why → Met code K u v why → Met code′ K′ (pre ++ u) v why
-  met-in TooLong u v i m = absurd i
-  met-in Ended u v i m = (m .0, opens-in u (m .1))
-  met-in NoCode u [] i m = absurd m
-  met-in NoCode u (w ∷ v) i m = (opens-in u (m .0), rw append-assoc (stops-in (λ _. Unit {0}) (λ _. Unit {0}) (λ a b d x. tt) (u ++ w ∷ []) (m .1)))
-  met-in OutOfRange u v i m = breaks-in numbers u v m
-  met-in TooDeep u v i m = breaks-in nesting u v m
-  met-in TooManySteps u v i m = breaks-in amount u v m
-  met-in LeftOver u v i m = absurd i
+  met-in : (why : Reason) (u v : List ℕ) → Met code K u v why → Met code′ K′ (pre ++ u) v why
+  met-in TooLong u v m = absurd m
+  met-in Ended u v m = (m .0, opens-in u (m .1))
+  met-in NoCode u [] m = absurd m
+  met-in NoCode u (w ∷ v) m = (opens-in u (m .0), rw append-assoc (stops-in (λ _. Unit {0}) (λ _. Unit {0}) (λ a b d x. tt) (u ++ w ∷ []) (m .1)))
+  met-in OutOfRange u v m = breaks-in known u v m
+  met-in TooDeep u v m = breaks-in shallow u v m
+  met-in TooManySteps u v m = breaks-in few u v m
+  met-in LeftOver u v m = absurd m
 
   pub fault-in : (ws rest : List ℕ) (t : Fault) → ws ≡ pre ++ rest → FaultIn code K rest t → FaultIn code′ K′ ws t
   fault-in ws rest t e m =
-      (pre ++ m .0, m .1, cc (e, m .2, append-assoc pre (m .0) (m .1)), m .3, m .4, met-in (t .reason) (m .0) (m .1) (m .4) (m .5))
+      (pre ++ m .0, m .1, cc (e, m .2, append-assoc pre (m .0) (m .1)), m .3, met-in (t .reason) (m .0) (m .1) (m .4))

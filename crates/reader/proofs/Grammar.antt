@@ -5,8 +5,7 @@ use mathlib.Core.List.{List, [], _∷_, _++_}
 use Prim.Native.Nat.{ℕ, suc, _+_, _≤_, max}
 use native.Mathlib.Omega.{arith}
 use lib.ListN.{length}
-use Rattle.kat.specs.Programs.{Program, steps, depth, Known}
-use Rattle.reader.specs.Limits.{numbers, nesting, amount, Keeps}
+use Rattle.kat.specs.Programs.{Program, steps, depth, Known, known, shallow, few, Keeps}
 use Rattle.reader.specs.Faults.{Begins, All}
 
 -- the terms of a kind: their words are read in one way, and one of them is a leaf that keeps every limit
@@ -39,9 +38,9 @@ pub record Wraps {A : Type 0} (code : A → List ℕ) (program : A → Program) 
 module _ {A : Type 0} {code : A → List ℕ} {program : A → Program} (g : Grammar code program) where
   -- the leaf keeps every limit, whatever the room
   pub leaf-keeps : (d k : ℕ) → All (λ l a. Keeps d k l (program a)) (g .leaf)
-  leaf-keeps d k numbers = g .leaf-known
-  leaf-keeps d k nesting = omega (arith, g .leaf-depth)
-  leaf-keeps d k amount = omega (arith, g .leaf-steps)
+  leaf-keeps d k known = g .leaf-known
+  leaf-keeps d k shallow = omega (arith, g .leaf-depth)
+  leaf-keeps d k few = omega (arith, g .leaf-steps)
 
   -- so that a term can always come
   pub opens : (d k : ℕ) → Begins code (All (λ l a. Keeps d k l (program a))) 1 []

@@ -6,15 +6,15 @@ use native.Mathlib.Omega.{arith}
 use lib.ListN.{length, length-append, length-take, length-drop}
 use lib.Seq.{take-append-seam, drop-append-seam}
 use Rattle.std.proofs.shelf.Lists.{nil-from-length}
-use Rattle.kat.specs.Programs.{Program, always, guard, InRange}
+use Rattle.kat.specs.Programs.{Program, always, guard, Limit, known, shallow, few, Keeps}
 use Rattle.kat.specs.Words.{words, TwoPrograms}
 use Rattle.kat.proofs.UniqueReading.{one-program}
 use Rattle.reader.specs.declared.refusals.Reason.{Reason}
 use Rattle.reader.specs.declared.refusals.Reason.the-variants.{TooLong, Ended, NoCode, OutOfRange, TooDeep, TooManySteps, LeftOver}
 use Rattle.reader.specs.declared.refusals.Fault.{Fault}
-use Rattle.reader.specs.Limits.{Limit, numbers, nesting, amount, Keeps, PairKeeps}
+use Rattle.reader.specs.Limits.{PairKeeps}
 use Rattle.reader.specs.Faults.{All, Stops, Breaks, Met}
-use Rattle.reader.specs.Reading.{IsPair, pair-words, Refused}
+use Rattle.reader.specs.Reading.{IsPair, pair-words, Told, Refused}
 use Rattle.reader.specs.Parts.{ProgramFault, ProgramIn, PairFault}
 use Rattle.reader.proofs.Frames.{Frame, fault-in}
 
@@ -28,9 +28,9 @@ first-of-pair = record {
 }
   where
     guard-fits : (l : Limit) → Keeps 64 12 l (guard always)
-    guard-fits numbers = tt
-    guard-fits nesting = omega arith
-    guard-fits amount = omega arith
+    guard-fits known = tt
+    guard-fits shallow = omega arith
+    guard-fits few = omega arith
 
 second-of-pair : (p : Program) → All (Keeps 64 12) p → Frame words pair-words (Keeps 64 12) PairKeeps (words p)
 second-of-pair p h = record {
@@ -43,14 +43,24 @@ second-of-pair p h = record {
       (b .1, more, o .1, λ l x. x .1);
 }
 
+-- What is met inside a pair is told of it.
+told : (u v : List ℕ) (why : Reason) → Met pair-words PairKeeps u v why → Told u v why
+told u v TooLong m = absurd m
+told u v Ended m = m
+told u v NoCode m = m
+told u v OutOfRange m = m
+told u v TooDeep m = m
+told u v TooManySteps m = m
+told u v LeftOver m = absurd m
+
 -- What is met in the first program, or in the second, is met in the pair;
 pub first-fails : (s : List ℕ) (f : Fault) → ProgramFault 64 12 s f → PairFault s f
-first-fails s f x = let m = fault-in first-of-pair s s f refl x in (m .0, m .1, m .2, m .3, m .5)
+first-fails s f x = let m = fault-in first-of-pair s s f refl x in (m .0, m .1, m .2, m .3, told (m .0) (m .1) (f .reason) (m .4))
 
 pub second-fails : (s second : List ℕ) (left : ℕ) (f : Fault) → ProgramIn 64 12 s second left → ProgramFault 64 12 second f → PairFault s f
 second-fails s second left f r x =
     let m = fault-in (second-of-pair (r .0) (r .2)) s second f (r .1) x in
-    (m .0, m .1, m .2, m .3, m .5)
+    (m .0, m .1, m .2, m .3, told (m .0) (m .1) (f .reason) (m .4))
 
 -- and words behind both are left over.
 pub left-over : (s second rest : List ℕ) (left left′ : ℕ) → ProgramIn 64 12 s second left → ProgramIn 64 12 second rest left′ → 0 < length rest → PairFault s (record { reason = LeftOver; left = length rest })
@@ -66,19 +76,11 @@ is-pair s second rest left left′ n r q z =
     let e : rest ≡ [] = nil-from-length rest z in (
       r .0,
       q .0,
-      record { are = cc (r .1, q .1, e, append-nil (words (q .0))); first = in-range (r .0) (r .2); second = in-range (q .0) (q .2); short = n },
+      record { are = cc (r .1, q .1, e, append-nil (words (q .0))); first = r .2; second = q .2; short = n },
       omega (arith, simp length-append at (ap length (r .1))),
       omega (arith, r .3),
       omega (arith, q .3),
     )
-  where
-    in-range : (p : Program) → All (Keeps 64 12) p → InRange p
-    in-range p h = record { known = h numbers; shallow = h nesting; few = h amount }
-
-in-range-keeps : (p : Program) → InRange p → All (Keeps 64 12) p
-in-range-keeps p h numbers = h .known
-in-range-keeps p h nesting = h .shallow
-in-range-keeps p h amount = h .few
 
 -- Words that two programs begin are not themselves two programs, unless nothing follows.
 nothing-follows : (p q p′ q′ : Program) (r : List ℕ) → (words p ++ words q) ++ r ≡ words p′ ++ words q′ → r ≡ []
@@ -91,10 +93,10 @@ stopped P u v w p q e s x = s (p, q) v [] (append-assoc u (w ∷ []) v ∙ e ∙
 
 broken : (l : Limit) (s u v : List ℕ) → s ≡ u ++ v → Breaks pair-words PairKeeps l u v → (p q : Program) → TwoPrograms s p q → ⊥
 broken l s u [] e m p q t = absurd m
-broken l s u (w ∷ v) e m p q t = stopped (PairKeeps l) u v w p q (sym e ∙ t .are) (m .2) (in-range-keeps p (t .first) l, in-range-keeps q (t .second) l)
+broken l s u (w ∷ v) e m p q t = stopped (PairKeeps l) u v w p q (sym e ∙ t .are) (m .2) (t .first l, t .second l)
 
 -- Where something is met, the words are not two programs in range.
-not-two : (s u v : List ℕ) (why : Reason) → s ≡ u ++ v → length s ≤ 4096 → Met pair-words PairKeeps u v why → (p q : Program) → TwoPrograms s p q → ⊥
+not-two : (s u v : List ℕ) (why : Reason) → s ≡ u ++ v → length s ≤ 4096 → Told u v why → (p q : Program) → TwoPrograms s p q → ⊥
 not-two s u v TooLong e n m p q t = omega (arith, simp length-append at (ap length e))
 not-two s u v Ended e n m p q t =
     let b = m .1 in
@@ -102,9 +104,9 @@ not-two s u v Ended e n m p q t =
     omega (arith, b .2, ap length z)
 not-two s u [] NoCode e n m p q t = absurd m
 not-two s u (w ∷ v) NoCode e n m p q t = stopped (λ _. Unit {0}) u v w p q (sym e ∙ t .are) (m .1) tt
-not-two s u v OutOfRange e n m p q t = broken numbers s u v e m p q t
-not-two s u v TooDeep e n m p q t = broken nesting s u v e m p q t
-not-two s u v TooManySteps e n m p q t = broken amount s u v e m p q t
+not-two s u v OutOfRange e n m p q t = broken known s u v e m p q t
+not-two s u v TooDeep e n m p q t = broken shallow s u v e m p q t
+not-two s u v TooManySteps e n m p q t = broken few s u v e m p q t
 not-two s u v LeftOver e n m p q t =
     let z : v ≡ [] = nothing-follows (m .1 .0) (m .1 .1) p q v (cc (e, m .2, t .are)) in
     omega (arith, m .0, ap length z)
@@ -119,7 +121,7 @@ refused s f n m =
       none = not-two s (m .0) (m .1) (f .reason) (m .2) n (m .4);
       within = omega arith;
       short = λ _. n;
-      met = rw (e, m .2, take-append-seam, drop-append-seam) (m .4);
+      told = rw (e, m .2, take-append-seam, drop-append-seam) (m .4);
     }
 
 pub too-long : (s : List ℕ) → 4096 < length s → Refused s (record { reason = TooLong; at = 4096 })
@@ -127,5 +129,5 @@ too-long s h = record {
   none = λ p q t. omega (arith, t .short);
   within = omega arith;
   short = λ ne. absurd (ne refl);
-  met = (simp length-take (omega arith), simp length-drop (omega arith));
+  told = (simp length-take (omega arith), simp length-drop (omega arith));
 }

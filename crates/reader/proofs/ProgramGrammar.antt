@@ -3,10 +3,10 @@ use mathlib.Core.Path.{_≡_, refl, sym, ap}
 use mathlib.Core.List.{List, [], _∷_, _++_, append-nil}
 use Prim.Native.Nat.{ℕ}
 use native.Mathlib.Omega.{arith}
-use Rattle.kat.specs.Programs.{Test, always, Program, guard, step, seq, choice, star}
+use Rattle.kat.specs.Programs.{Test, always, Program, guard, step, seq, choice, star, Limit, known, shallow, few, Keeps}
 use Rattle.kat.specs.Words.{test-words, words}
 use Rattle.kat.proofs.UniqueReading.{one-program}
-use Rattle.reader.specs.Limits.{Limit, numbers, nesting, amount, Keeps, TestKeeps}
+use Rattle.reader.specs.Limits.{TestKeeps}
 use Rattle.reader.proofs.Frames.{Frame}
 use Rattle.reader.proofs.Grammar.{Grammar, Joins, Wraps}
 
@@ -53,14 +53,14 @@ stars = record { wrap = star; writes = λ a. refl; knows = λ a. (λ x. x, λ x.
 
 -- A test keeps what the guard by it keeps: it has no steps.
 pub guard-keeps : (d k : ℕ) (l : Limit) (t : Test) → TestKeeps d l t → Keeps d k l (guard t)
-guard-keeps d k numbers t x = x
-guard-keeps d k nesting t x = x
-guard-keeps d k amount t x = omega arith
+guard-keeps d k known t x = x
+guard-keeps d k shallow t x = x
+guard-keeps d k few t x = omega arith
 
 test-keeps : (d k : ℕ) (l : Limit) (t : Test) → Keeps d k l (guard t) → TestKeeps d l t
-test-keeps d k numbers t x = x
-test-keeps d k nesting t x = x
-test-keeps d k amount t x = omega arith
+test-keeps d k known t x = x
+test-keeps d k shallow t x = x
+test-keeps d k few t x = omega arith
 
 pub guard-frame : (d k : ℕ) → Frame test-words words (TestKeeps d) (Keeps d k) (0 ∷ [])
 guard-frame d k = record {

@@ -4,13 +4,12 @@ use mathlib.Core.Logic.{_⊎_, inl, inr}
 use mathlib.Core.List.{List, _∷_}
 use Prim.Native.Nat.{ℕ, suc, _-_, _<_}
 use native.Mathlib.Omega.{arith}
-use Rattle.kat.specs.Programs.{guard, step}
+use Rattle.kat.specs.Programs.{guard, step, Limit, known, shallow, few, Keeps}
 use Rattle.kat.specs.Words.{words}
 use Rattle.reader.specs.declared.refusals.Fault.{Fault}
 use Rattle.reader.specs.declared.heads.Step as number
 use Rattle.reader.specs.declared.heads.Head.{Head}
 use Rattle.reader.specs.declared.heads.Head.the-variants.{Guard, Step, Sequence, Choice, Star}
-use Rattle.reader.specs.Limits.{Limit, numbers, nesting, amount, Keeps}
 use Rattle.reader.specs.Heads.{HeadIn}
 use Rattle.reader.specs.Parts.{ProgramFault, ProgramIn, TestFault, TestIn}
 use Rattle.reader.proofs.Frames.{fault-in}
@@ -30,9 +29,9 @@ module _ (d k : ℕ) (h : Head) (ws rest : List ℕ) (b : HeadIn d k ws h rest) 
   step-read n e = let x = rw e at b in let p : 0 < k = x .1 .1 in (step (n .0), x .0, keeps, omega arith)
     where
       keeps : (l : Limit) → Keeps d k l (step (n .0))
-      keeps numbers = let x = rw e at b in x .1 .0
-      keeps nesting = omega arith
-      keeps amount = let x = rw e at b in let p : 0 < k = x .1 .1 in omega arith
+      keeps known = let x = rw e at b in x .1 .0
+      keeps shallow = omega arith
+      keeps few = let x = rw e at b in let p : 0 < k = x .1 .1 in omega arith
 
 -- A head of two parts asks for a level.
 two-parts : (d k : ℕ) (h : Head) (ws rest : List ℕ) → (h ≡ Sequence) ⊎ (h ≡ Choice) → HeadIn d k ws h rest → (w : ℕ) × Joins words (λ p. p) w × (ws ≡ w ∷ rest) × (suc (d - 1) ≡ d)

@@ -5,12 +5,12 @@ use mathlib.Core.List.{List, _∷_}
 use Prim.Native.Nat.{ℕ, suc, _-_, _<_}
 use native.Mathlib.Omega.{arith}
 use Rattle.kat.specs.Programs as terms
-use Rattle.kat.specs.Programs.{always, never, test, guard, test-depth, KnownTest}
+use Rattle.kat.specs.Programs.{always, never, test, guard, test-depth, KnownTest, Limit, known, shallow, few}
 use Rattle.kat.specs.Words.{test-words}
 use Rattle.reader.specs.declared.refusals.Fault.{Fault}
 use Rattle.reader.specs.declared.heads.TestHead.{TestHead}
 use Rattle.reader.specs.declared.heads.TestHead.the-variants.{Always, Never, Test, Both, Any, Opposite}
-use Rattle.reader.specs.Limits.{Limit, numbers, nesting, amount, TestKeeps}
+use Rattle.reader.specs.Limits.{TestKeeps}
 use Rattle.reader.specs.Heads.{TestHeadIn}
 use Rattle.reader.specs.Parts.{TestFault, TestIn}
 use Rattle.reader.proofs.Frames.{fault-in}
@@ -20,9 +20,9 @@ use Rattle.reader.proofs.OnePart.{part-frame, wrapped}
 use Rattle.reader.proofs.TestGrammar.{tests, boths, anys, opposites}
 
 flat-keeps : (d : ℕ) (t : terms.Test) → KnownTest t → test-depth t ≡ 0 → (l : Limit) → TestKeeps d l t
-flat-keeps d t k z numbers = k
-flat-keeps d t k z nesting = omega arith
-flat-keeps d t k z amount = omega arith
+flat-keeps d t k z known = k
+flat-keeps d t k z shallow = omega arith
+flat-keeps d t k z few = omega arith
 
 -- A head without parts is a test.
 pub test-leaf : (d : ℕ) (h : TestHead) (ws rest : List ℕ) → (h ≡ Always) ⊎ ((h ≡ Never) ⊎ ((n : ℕ) × (h ≡ Test n))) → TestHeadIn d ws h rest → TestIn d ws rest

@@ -3,8 +3,7 @@ use mathlib.Core.Path.{_≡_, refl, sym, ap, _∙_}
 use mathlib.Core.List.{List, [], _∷_, _++_, append-assoc, append-nil}
 use Prim.Native.Nat.{ℕ, suc, _+_, _≤_}
 use native.Mathlib.Omega.{arith}
-use Rattle.kat.specs.Programs.{Program, steps, depth}
-use Rattle.reader.specs.Limits.{Limit, numbers, nesting, amount, Keeps}
+use Rattle.kat.specs.Programs.{Program, steps, depth, Limit, known, shallow, few, Keeps}
 use Rattle.reader.specs.Faults.{All, AllBut, Breaks}
 use Rattle.reader.proofs.Frames.{Frame}
 use Rattle.reader.proofs.Grammar.{Grammar, Joins, leaf-keeps, opens}
@@ -12,25 +11,25 @@ use Rattle.reader.proofs.Grammar.{Grammar, Joins, leaf-keeps, opens}
 module _ {A : Type 0} {code : A → List ℕ} {program : A → Program} (g : Grammar code program) {w : ℕ} (j : Joins code program w) where
   -- A term of two parts keeps a limit if both parts do,
   join-keeps : (d d′ k k′ k″ : ℕ) → suc d ≡ d′ → k + k″ ≤ k′ → (l : Limit) (a b : A) → Keeps d k l (program a) → Keeps d k″ l (program b) → Keeps d′ k′ l (program (j .join a b))
-  join-keeps d d′ k k′ k″ e m numbers a b x y = j .knows a b .1 (x, y)
-  join-keeps d d′ k k′ k″ e m nesting a b x y = omega (arith, j .nests a b)
-  join-keeps d d′ k k′ k″ e m amount a b x y = omega (arith, j .counts a b)
+  join-keeps d d′ k k′ k″ e m known a b x y = j .knows a b .1 (x, y)
+  join-keeps d d′ k k′ k″ e m shallow a b x y = omega (arith, j .nests a b)
+  join-keeps d d′ k k′ k″ e m few a b x y = omega (arith, j .counts a b)
 
   -- and only then: the first in the same room, the second in what the first leaves.
   keeps-first : (d d′ k : ℕ) → suc d ≡ d′ → (l : Limit) (a b : A) → Keeps d′ k l (program (j .join a b)) → Keeps d k l (program a)
-  keeps-first d d′ k e numbers a b x = j .knows a b .0 x .0
-  keeps-first d d′ k e nesting a b x = omega (arith, j .nests a b)
-  keeps-first d d′ k e amount a b x = omega (arith, j .counts a b)
+  keeps-first d d′ k e known a b x = j .knows a b .0 x .0
+  keeps-first d d′ k e shallow a b x = omega (arith, j .nests a b)
+  keeps-first d d′ k e few a b x = omega (arith, j .counts a b)
 
   keeps-second : (d d′ k k′ : ℕ) → suc d ≡ d′ → (l : Limit) (a b : A) → steps (program a) + k′ ≡ k → Keeps d′ k l (program (j .join a b)) → Keeps d k′ l (program b)
-  keeps-second d d′ k k′ e numbers a b n x = j .knows a b .0 x .1
-  keeps-second d d′ k k′ e nesting a b n x = omega (arith, j .nests a b)
-  keeps-second d d′ k k′ e amount a b n x = omega (arith, j .counts a b)
+  keeps-second d d′ k k′ e known a b n x = j .knows a b .0 x .1
+  keeps-second d d′ k k′ e shallow a b n x = omega (arith, j .nests a b)
+  keeps-second d d′ k k′ e few a b n x = omega (arith, j .counts a b)
 
   own-room : (d k : ℕ) (a : A) → All (λ l a. Keeps d k l (program a)) a → All (λ l a. Keeps d (steps (program a)) l (program a)) a
-  own-room d k a h numbers = h numbers
-  own-room d k a h nesting = h nesting
-  own-room d k a h amount = omega arith
+  own-room d k a h known = h known
+  own-room d k a h shallow = h shallow
+  own-room d k a h few = omega arith
 
   -- the words behind w are those of the two parts
   parts : (c : A) (rest more : List ℕ) → w ∷ rest ≡ code c ++ more → (a b : A) × (c ≡ j .join a b) × (rest ≡ code a ++ (code b ++ more))
@@ -67,14 +66,14 @@ module _ {A : Type 0} {code : A → List ℕ} {program : A → Program} (g : Gra
       (cc (h, p, q, j .writes a b, append-assoc (code a) (code b) more), λ l. join-keeps d d′ (steps (program a)) k k′ e (omega arith) l a b (own-room d k a x l) (y l))
 
   -- and where there is no room for a level, w breaks the limit.
-  pub join-too-deep : (d k : ℕ) (v : List ℕ) → d ≡ 0 → Breaks code (λ l a. Keeps d k l (program a)) nesting [] (w ∷ v)
+  pub join-too-deep : (d k : ℕ) (v : List ℕ) → d ≡ 0 → Breaks code (λ l a. Keeps d k l (program a)) shallow [] (w ∷ v)
   join-too-deep d k v z = (
     opens g d k,
     (j .join (g .leaf) (g .leaf), code (g .leaf) ++ code (g .leaf), omega arith, sym (j .writes (g .leaf) (g .leaf)), but),
     λ c r r′ e x. let p = parts c r r′ e in let y : depth (program (j .join (p .0) (p .1))) ≤ d = rw (p .2) at x in omega (arith, j .nests (p .0) (p .1)),
   )
     where
-      but : AllBut (λ l a. Keeps d k l (program a)) nesting (j .join (g .leaf) (g .leaf))
-      but numbers ne = j .knows (g .leaf) (g .leaf) .1 (g .leaf-known, g .leaf-known)
-      but nesting ne = absurd (ne refl)
-      but amount ne = omega (arith, j .counts (g .leaf) (g .leaf), g .leaf-steps)
+      but : AllBut (λ l a. Keeps d k l (program a)) shallow (j .join (g .leaf) (g .leaf))
+      but known ne = j .knows (g .leaf) (g .leaf) .1 (g .leaf-known, g .leaf-known)
+      but shallow ne = absurd (ne refl)
+      but few ne = omega (arith, j .counts (g .leaf) (g .leaf), g .leaf-steps)

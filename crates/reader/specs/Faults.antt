@@ -2,15 +2,17 @@
 -- All is said of terms of any kind, of which `code` gives the words and K l says that a limit l is kept.
 --     Begins     some term that meets P begins with the words u, with at least n words to come
 --     Stops      no term that meets P begins with the words u, nor do these begin with such a term's
---     Breaks     after u a term in range can still come, and with the next word only one that breaks the limit l
---     Met        what is true where a reason is told after the words u, with the words v left
+--     Breaks     after the words u a term that keeps each limit can still come, and with the next word only terms that
+--                break the limit l, some of which keep the others
+--     Met        what is true where a reason is met after the words u, with the words v left; two reasons are not met inside
+--                a term
 use mathlib.Core.Path.{_≡_}
 use mathlib.Core.List.{List, [], _∷_, _++_}
-use Prim.Native.Nat.{ℕ, _<_, _≤_}
+use Prim.Native.Nat.{ℕ, _≤_}
 use lib.ListN.{length}
 use Rattle.reader.specs.declared.refusals.Reason.{Reason}
 use Rattle.reader.specs.declared.refusals.Reason.the-variants.{TooLong, Ended, NoCode, OutOfRange, TooDeep, TooManySteps, LeftOver}
-use Rattle.reader.specs.Limits.{Limit, numbers, nesting, amount}
+use Rattle.kat.specs.Programs.{Limit, known, shallow, few}
 
 abbrev pub Begins : {A : Type 0} → (A → List ℕ) → (A → Type 0) → ℕ → List ℕ → Type 0
 Begins {A} code P n u = (a : A) × (r : List ℕ) × (n ≤ length r) × (u ++ r ≡ code a) × P a
@@ -35,10 +37,10 @@ Unreadable code K u [] = ⊥
 Unreadable code K u (w ∷ v) = Begins code (All K) 1 u × Stops code (λ _. Unit {0}) (u ++ w ∷ [])
 
 abbrev pub Met : {A : Type 0} → (A → List ℕ) → (Limit → A → Type 0) → List ℕ → List ℕ → Reason → Type 0
-Met code K u v TooLong = (length u ≡ 4096) × (0 < length v)
+Met code K u v TooLong = ⊥
 Met code K u v Ended = (v ≡ []) × Begins code (All K) 1 u
 Met code K u v NoCode = Unreadable code K u v
-Met code K u v OutOfRange = Breaks code K numbers u v
-Met code K u v TooDeep = Breaks code K nesting u v
-Met code K u v TooManySteps = Breaks code K amount u v
-Met {A} code K u v LeftOver = (0 < length v) × (a : A) × (u ≡ code a) × All K a
+Met code K u v OutOfRange = Breaks code K known u v
+Met code K u v TooDeep = Breaks code K shallow u v
+Met code K u v TooManySteps = Breaks code K few u v
+Met code K u v LeftOver = ⊥

@@ -5,6 +5,7 @@
 use mathlib.Core.Path.{_≡_}
 use mathlib.Core.List.{List, [], _∷_, _++_}
 use Prim.Native.Nat.{ℕ, _<_}
+use Rattle.kat.specs.Programs.{test-count, step-count}
 use Rattle.reader.specs.declared.heads.Head.{Head}
 use Rattle.reader.specs.declared.heads.Head.the-variants.{Guard, Step, Sequence, Choice, Star}
 use Rattle.reader.specs.declared.heads.TestHead.{TestHead}
@@ -19,7 +20,7 @@ head-words Star = 4 ∷ []
 
 abbrev pub HeadFits : ℕ → ℕ → Head → Type 0
 HeadFits d k Guard = Unit {0}
-HeadFits d k (Step n) = (n .0 < 8) × (0 < k)
+HeadFits d k (Step n) = (n .0 < step-count) × (0 < k)
 HeadFits d k Sequence = 0 < d
 HeadFits d k Choice = 0 < d
 HeadFits d k Star = 0 < d
@@ -39,7 +40,7 @@ test-head-words Opposite = 5 ∷ []
 abbrev pub TestHeadFits : ℕ → TestHead → Type 0
 TestHeadFits d Always = Unit {0}
 TestHeadFits d Never = Unit {0}
-TestHeadFits d (Test n) = n < 4
+TestHeadFits d (Test n) = n < test-count
 TestHeadFits d Both = 0 < d
 TestHeadFits d Any = 0 < d
 TestHeadFits d Opposite = 0 < d

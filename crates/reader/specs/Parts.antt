@@ -6,14 +6,13 @@ use mathlib.Core.Path.{_≡_}
 use mathlib.Core.List.{List, [], _∷_, _++_}
 use Prim.Native.Nat.{ℕ, _+_, _≤_}
 use lib.ListN.{length}
-use Rattle.kat.specs.Programs.{Test, Program, steps}
+use Rattle.kat.specs.Programs.{Test, Program, steps, Limit, Keeps}
 use Rattle.kat.specs.Words.{test-words, words}
-use Rattle.reader.specs.declared.refusals.Reason.{Reason}
-use Rattle.reader.specs.declared.refusals.Reason.the-variants.{TooLong, Ended, NoCode, OutOfRange, TooDeep, TooManySteps, LeftOver}
+use Rattle.reader.specs.declared.refusals.Reason.the-variants.{Ended, OutOfRange}
 use Rattle.reader.specs.declared.refusals.Fault.{Fault}
-use Rattle.reader.specs.Limits.{Limit, Keeps, TestKeeps, PairKeeps}
+use Rattle.reader.specs.Limits.{TestKeeps}
 use Rattle.reader.specs.Faults.{All, Met}
-use Rattle.reader.specs.Reading.{pair-words}
+use Rattle.reader.specs.Reading.{Told}
 
 abbrev pub TestIn : ℕ → List ℕ → List ℕ → Type 0
 TestIn d ws rest = (t : Test) × (ws ≡ test-words t ++ rest) × All (TestKeeps d) t
@@ -21,18 +20,8 @@ TestIn d ws rest = (t : Test) × (ws ≡ test-words t ++ rest) × All (TestKeeps
 abbrev pub ProgramIn : ℕ → ℕ → List ℕ → List ℕ → ℕ → Type 0
 ProgramIn d k ws rest left = (p : Program) × (ws ≡ words p ++ rest) × All (Keeps d k) p × (steps p + left ≡ k)
 
--- A part is never too long, and has no words left over.
-abbrev pub Inside : Reason → Type 0
-Inside TooLong = ⊥
-Inside Ended = Unit {0}
-Inside NoCode = Unit {0}
-Inside OutOfRange = Unit {0}
-Inside TooDeep = Unit {0}
-Inside TooManySteps = Unit {0}
-Inside LeftOver = ⊥
-
 abbrev pub FaultIn : {A : Type 0} → (A → List ℕ) → (Limit → A → Type 0) → List ℕ → Fault → Type 0
-FaultIn code K ws f = (u v : List ℕ) × (ws ≡ u ++ v) × (f .left ≡ length v) × Inside (f .reason) × Met code K u v (f .reason)
+FaultIn code K ws f = (u v : List ℕ) × (ws ≡ u ++ v) × (f .left ≡ length v) × Met code K u v (f .reason)
 
 abbrev pub ProgramFault : ℕ → ℕ → List ℕ → Fault → Type 0
 ProgramFault d k = FaultIn words (Keeps d k)
@@ -42,7 +31,7 @@ TestFault d = FaultIn test-words (TestKeeps d)
 
 -- the fault in words that are not too long, read as two programs
 abbrev pub PairFault : List ℕ → Fault → Type 0
-PairFault s f = (u v : List ℕ) × (s ≡ u ++ v) × (f .left ≡ length v) × Met pair-words PairKeeps u v (f .reason)
+PairFault s f = (u v : List ℕ) × (s ≡ u ++ v) × (f .left ≡ length v) × Told u v (f .reason)
 
 -- a number that is missing, or not below the limit
 abbrev pub BadNumber : ℕ → List ℕ → Fault → Type 0

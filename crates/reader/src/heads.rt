@@ -8,9 +8,10 @@ ghost use Rattle.reader.specs.Parts.{BadNumber, ProgramFault, TestFault};
 use crate::refusals::Fault;
 use crate::refusals::Reason;
 
-// Tests have numbers below this,
+// Tests have numbers below this.
 const TESTS: u32 = 4;
-// and steps below this.
+
+// Steps have numbers below this.
 const STEPS: u32 = 8;
 
 // The number of a step.

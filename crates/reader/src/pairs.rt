@@ -9,11 +9,13 @@ use crate::refusals::Fault;
 use crate::refusals::Reason;
 use crate::refusals::Refusal;
 
-// The most words that two programs may have,
+// The most words that two programs may have.
 pub const MAX_WORDS: usize = 4096;
-// and the most levels and steps that each may have.
+
+// The most levels that a program may have.
 const MAX_DEPTH: u32 = 64;
 
+// The most steps that may be written in a program.
 const MAX_STEPS: u32 = 12;
 
 // Where the second of two programs begins, and how many steps are written in each.
