@@ -9,3 +9,4 @@ mod HeadFaults
 mod TestsRead
 mod ProgramsRead
 mod PairFaults
+mod OneAnswer

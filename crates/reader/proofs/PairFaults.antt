@@ -83,7 +83,7 @@ is-pair s second rest left left′ n r q z =
     )
 
 -- Words that two programs begin are not themselves two programs, unless nothing follows.
-nothing-follows : (p q p′ q′ : Program) (r : List ℕ) → (words p ++ words q) ++ r ≡ words p′ ++ words q′ → r ≡ []
+pub nothing-follows : (p q p′ q′ : Program) (r : List ℕ) → (words p ++ words q) ++ r ≡ words p′ ++ words q′ → r ≡ []
 nothing-follows p q p′ q′ r e =
     let f = one-program p p′ (words q ++ r) (words q′) (sym (append-assoc (words p) (words q) r) ∙ e) in
     one-program q q′ r [] (f .1 ∙ sym (append-nil (words q′))) .1

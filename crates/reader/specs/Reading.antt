@@ -7,6 +7,8 @@ use mathlib.Core.Path.{_≡_}
 use mathlib.Core.List.{List, _++_}
 use Prim.Native.Nat.{ℕ, _<_, _≤_}
 use lib.ListN.{length, take, drop}
+use Rattle.std.specs.declared.result.Result.{Result}
+use Rattle.std.specs.Results.{Cases}
 use Rattle.kat.specs.Programs.{Program, steps}
 use Rattle.kat.specs.Words.{words, TwoPrograms, max-words}
 use Rattle.reader.specs.declared.refusals.Reason.{Reason}
@@ -36,3 +38,7 @@ pub record Refused (s : List ℕ) (r : Refusal) : Type 0 where
   pub within : r .at ≤ length s
   pub short : (r .reason ≡ TooLong → ⊥) → length s ≤ max-words
   pub told : Told (take (r .at) s) (drop (r .at) s) (r .reason)
+
+-- The answer is exact: words have one only.
+abbrev pub One-answer : Type 0
+One-answer = (s : List ℕ) (r r′ : Result Pair Refusal) → Cases r (IsPair s) (Refused s) → Cases r′ (IsPair s) (Refused s) → r ≡ r′

@@ -2,7 +2,7 @@
 ghost use Prim.Native.Nat.{_≤_};
 ghost use lib.ListN.{length};
 ghost use Rattle.std.specs.Results.{Cases};
-ghost use Rattle.reader.specs.Reading.{IsPair, Refused};
+ghost use Rattle.reader.specs.Reading.{IsPair, One-answer, Refused};
 ghost use Rattle.reader.specs.Parts.{PairFault};
 use crate::parts::after_program;
 use crate::refusals::Fault;
@@ -45,7 +45,8 @@ fn two_programs(words: &[u32]) -> Result<Pair, Fault>
 
 // The two programs in range that the words are, or why they are none.
 pub fn read_pair(words: &[u32]) -> Result<Pair, Refusal>
-    ensures { λ r. ⌜ Cases r (IsPair (now (words .entry))) (Refused (now (words .entry))) ⌝ }
+    ensures answer { λ r. ⌜ Cases r (IsPair (now (words .entry))) (Refused (now (words .entry))) ⌝ }
+    ensures exact { λ _. ⌜ One-answer ⌝ }
 {
     if words.len() > MAX_WORDS {
         return Err(Refusal {
