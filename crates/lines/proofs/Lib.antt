@@ -2,3 +2,4 @@
 mod Scans
 mod SpelledRead
 mod ReadSpelled
+mod LineReads

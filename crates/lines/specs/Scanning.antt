@@ -3,7 +3,8 @@
 --     effect    what a byte makes of where reading stands: it goes on, or a number has ended
 --     after     what a byte makes of a scan that keeps at most so many numbers
 --     scanned   what bytes make of it, one after the other
---     Lines-are-read   the bytes of a line, and then a newline, leave exactly the numbers that they spell, and nothing stopped
+--     HasRead   what a line has read
+--     LineRead  what it leaves of the bytes of a line, and a newline, is what they spell
 use mathlib.Core.Path.{_≡_}
 use mathlib.Core.Bool.{cond}
 use mathlib.Core.Logic.{_↔_}
@@ -11,6 +12,9 @@ use mathlib.Core.List.{List, [], _∷_, _++_}
 use Prim.Native.Nat.{ℕ, _+_, _-_, _*_, _^_, _<_, _≤_, min}
 use lib.Dec.{ltb}
 use lib.ListN.{length}
+use denote.Ref.{RefT}
+use Rattle.std.specs.declared.result.Result.{Result}
+use Rattle.std.specs.declared.result.Result.the-variants.{Ok, Err}
 use Rattle.std.specs.Of.Vec.{vec-items}
 use Rattle.lines.specs.declared.Fault.the-variants.{NotNumber, TooLarge, TooMany}
 use Rattle.lines.specs.declared.State.{State}
@@ -24,6 +28,10 @@ use Rattle.lines.specs.Spelling.{blank, digit, Spells}
 pub record Scan : Type 0 where
   pub numbers : List ℕ
   pub state : State
+
+-- A line keeps at most as many numbers as two programs may have words.
+abbrev pub max-numbers : ℕ
+max-numbers = 4096
 
 abbrev pub started : Scan
 started = record { numbers = []; state = Gap }
@@ -57,23 +65,25 @@ column-after Gap c = min (c + 1) (2 ^ 64 - 1)
 column-after (Number n) c = min (c + 1) (2 ^ 64 - 1)
 column-after (Stopped f) c = c
 
--- a line with no byte yet, which keeps at most so many numbers
-pub record Fresh (most : ℕ) (l : Line) : Type 0 where
+-- a line with no byte yet
+pub record Fresh (l : Line) : Type 0 where
   pub scan : scan-of l ≡ started
   pub column : l .column ≡ 0
-  pub limit : l .most ≡ most
+
+-- The line l has read the bytes bs.
+abbrev pub HasRead : List ℕ → Line → Type 0
+HasRead bs l = scan-of l ≡ scanned max-numbers started bs
 
 -- the line l with one byte more is l′
 pub record Pushed (l : Line) (b : ℕ) (l′ : Line) : Type 0 where
-  pub scan : scan-of l′ ≡ after (l .most) (scan-of l) b
+  pub scan : scan-of l′ ≡ after max-numbers (scan-of l) b
   pub column : l′ .column ≡ column-after (l .state) (l .column)
-  pub limit : l′ .most ≡ l .most
+  pub reads : (bs : List ℕ) → HasRead bs l → HasRead (bs ++ b ∷ []) l′
 
 -- nothing has changed
 pub record Same (l l′ : Line) : Type 0 where
   pub scan : scan-of l′ ≡ scan-of l
   pub column : l′ .column ≡ l .column
-  pub limit : l′ .most ≡ l .most
 
 -- Reading has not stopped, and these are the numbers that are complete.
 abbrev pub Complete : Scan → List ℕ → Type 0
@@ -88,5 +98,11 @@ abbrev pub Fit : List ℕ → Type 0
 Fit [] = Unit {0}
 Fit (n ∷ ns) = (n < 2 ^ 32) × Fit ns
 
-abbrev pub Lines-are-read : Type 0
-Lines-are-read = (most : ℕ) (bs ns : List ℕ) → (Spells bs ns × Fit ns × (length ns ≤ most)) ↔ (scanned most started (bs ++ 10 ∷ []) ≡ record { numbers = ns; state = Gap })
+-- The bytes bs are a line of these numbers: they spell them, each fits 32 bits, and there are not too many.
+abbrev pub IsLine : List ℕ → List ℕ → Type 0
+IsLine bs ns = Spells bs ns × Fit ns × (length ns ≤ max-numbers)
+
+-- What a line and a newline leave: the line's numbers exactly, or none where it is no line of numbers.
+abbrev pub LineRead : List ℕ → Result (RefT (List ℕ)) Stop → Type 0
+LineRead bs (Ok x) = (ns : List ℕ) → IsLine bs ns ↔ (ns ≡ x .now)
+LineRead bs (Err stop) = (ns : List ℕ) → IsLine bs ns → ⊥

@@ -1,7 +1,9 @@
 // Lines of decimal numbers, read byte by byte: a line may be as long as it likes, and needs no more memory than its numbers.
+ghost use Prim.Native.Nat.{ℕ};
+ghost use mathlib.Core.List.{List, [], _∷_, _++_};
 ghost use mathlib.Core.Path.{_≡_};
 ghost use Rattle.std.specs.Results.{Cases};
-ghost use Rattle.lines.specs.Scanning.{Complete, Fresh, Lines-are-read, Pushed, Same, StoppedAt, effect, scan-of};
+ghost use Rattle.lines.specs.Scanning.{Complete, Fresh, HasRead, LineRead, Pushed, Same, StoppedAt, effect, scan-of};
 ghost use lib.Dec.{eqb};
 use std::alloc::AllocError;
 use std::alloc::Global;
@@ -37,7 +39,7 @@ enum Effect {
 }
 
 // What the byte makes of the state.
-fn take(state: State, byte: u8) -> Effect
+fn effect_of(state: State, byte: u8) -> Effect
     ensures { λ r. ⌜ r ≡ effect state byte ⌝ }
 {
     match (state, byte) {
@@ -56,26 +58,26 @@ fn take(state: State, byte: u8) -> Effect
     }
 }
 
+// A line keeps at most as many numbers as two programs may have words.
+pub const MAX_NUMBERS: usize = 4096;
+
 // The numbers of a line, as its bytes come.
 #[derive(Drop)]
 pub struct Line {
     // the numbers that are complete
     numbers: Vec<u32>,
-    // how many of them it keeps at most
-    most: usize,
     state: State,
     // how many bytes came until reading stopped
     column: usize,
 }
 
 impl Line {
-    // A line with no byte yet, which keeps at most so many numbers.
-    pub fn new(heap: Global, most: usize) -> Self
-        ensures { λ r. ⌜ Fresh most r ⌝ }
+    // A line with no byte yet.
+    pub fn new(heap: Global) -> Self
+        ensures { λ r. ⌜ Fresh r ⌝ }
     {
         Line {
             numbers: Vec::new(heap),
-            most,
             state: State::Gap,
             column: 0,
         }
@@ -89,9 +91,9 @@ impl Line {
             State::Stopped(_) => self.column,
             _ => self.column.saturating_add(1),
         };
-        match take(self.state, byte) {
+        match effect_of(self.state, byte) {
             Effect::Goes(state) => self.state = state,
-            Effect::Ends(n) if self.numbers.len() < self.most => {
+            Effect::Ends(n) if self.numbers.len() < MAX_NUMBERS => {
                 self.numbers.push(n)?;
                 self.state = State::Gap;
             }
@@ -101,10 +103,10 @@ impl Line {
         Ok(())
     }
 
-    // The numbers that are complete, or where reading stopped. A newline completes the last number.
+    // The numbers that are complete, or where reading stopped. After a newline these are the numbers of the line before it.
     pub fn numbers(&self) -> Result<&[u32], Stop>
         ensures value { λ r. ⌜ Cases r (λ x. Complete (scan-of (now (self .entry))) (now x)) (StoppedAt (now (self .entry))) ⌝ }
-        ensures law { λ _. ⌜ Lines-are-read ⌝ }
+        ensures reads { λ r. ⌜ ((bs : List ℕ) → HasRead (bs ++ 10 ∷ []) (now (self .entry)) → LineRead bs r) ⌝ }
     {
         match self.state {
             State::Stopped(fault) => Err(Stop {
@@ -124,7 +126,7 @@ impl Line {
 
     // Forgets the bytes so far.
     pub fn clear(&mut self)
-        ensures { λ _. ⌜ Fresh (now (self .entry) .most) (now (self .exit)) ⌝ }
+        ensures { λ _. ⌜ Fresh (now (self .exit)) ⌝ }
     {
         self.numbers.clear();
         self.state = State::Gap;
