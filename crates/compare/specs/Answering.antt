@@ -1,4 +1,7 @@
 -- What is answered to a line of words, and in which words.
+--     AnswerTo       the answer to a line of these bytes: two programs exactly if they spell two programs in range
+--     Answered       the answer to these words, with its reason; LineAnswered: to what was read of a line
+--     answer-text    the answer as it is written
 use mathlib.Core.Path.{_≡_}
 use mathlib.Core.List.{List, [], _++_}
 use Prim.Native.Nat.{ℕ, _<_}
@@ -7,44 +10,49 @@ use lib.ListN.{length}
 use Rattle.std.specs.Written.{decimal}
 use Rattle.kat.specs.Programs.{Program}
 use Rattle.kat.specs.Words as kat
+use Rattle.kat.specs.Words.{max-words}
 use Rattle.lines.specs.declared.Fault.{Fault}
-use Rattle.lines.specs.declared.Fault.the-variants.{NotNumber, TooLarge, TooMany}
+use Rattle.lines.specs.declared.Fault.the-variants as fault
 use Rattle.lines.specs.declared.State.the-variants.{Gap, Number, Stopped}
 use Rattle.lines.specs.declared.Line.{Line}
+use Rattle.lines.specs.Spelling.{Spells}
 use Rattle.lines.specs.Scanning.{scan-of}
 use Rattle.reader.specs.declared.refusals.Reason.the-variants.{TooLong}
 use Rattle.reader.specs.Reading as reader
 use Rattle.reader.specs.Texts.{refusal-text}
 use Rattle.compare.specs.declared.answers.Why.{Why}
-use Rattle.compare.specs.declared.answers.Why.the-variants.{Empty, NoNumbers, Refused}
+use Rattle.compare.specs.declared.answers.Why.the-variants.{Empty, NotNumber, TooLarge, Refused}
 use Rattle.compare.specs.declared.answers.Answer.{Answer}
 use Rattle.compare.specs.declared.answers.Answer.the-variants.{TwoPrograms, NoPrograms}
 
--- Two programs, exactly if the words are two programs in range; otherwise there are no words, or the reader's reason.
+abbrev pub AnswerTo : List ℕ → Answer → Type 0
+AnswerTo bs TwoPrograms = (s : List ℕ) × (p q : Program) × Spells bs s × kat.TwoPrograms s p q
+AnswerTo bs (NoPrograms why) = (s : List ℕ) (p q : Program) → Spells bs s → kat.TwoPrograms s p q → ⊥
+
+-- why words are not two programs: there are none, or as the reader says
+abbrev pub WordsRefused : List ℕ → Why → Type 0
+WordsRefused s Empty = s ≡ []
+WordsRefused s (NotNumber column) = ⊥
+WordsRefused s (TooLarge column) = ⊥
+WordsRefused s (Refused r) = (0 < length s) × reader.Refused s r
+
 abbrev pub Answered : List ℕ → Answer → Type 0
 Answered s TwoPrograms = (p q : Program) × kat.TwoPrograms s p q
-Answered s (NoPrograms Empty) = s ≡ []
-Answered s (NoPrograms (NoNumbers stop)) = ⊥
-Answered s (NoPrograms (Refused r)) = (0 < length s) × reader.Refused s r
+Answered s (NoPrograms why) = ((p q : Program) → kat.TwoPrograms s p q → ⊥) × WordsRefused s why
 
--- the reason where reading stopped: more numbers than two programs may have words are too many words
+-- why, where reading stopped: more numbers than two programs may have words are too many words
 abbrev pub stop-reason : Fault → ℕ → Why
-stop-reason NotNumber c = NoNumbers (record { fault = NotNumber; column = c })
-stop-reason TooLarge c = NoNumbers (record { fault = TooLarge; column = c })
-stop-reason TooMany c = Refused (record { reason = TooLong; at = 4096 })
+stop-reason fault.NotNumber column = NotNumber column
+stop-reason fault.TooLarge column = TooLarge column
+stop-reason fault.TooMany column = Refused (record { reason = TooLong; at = max-words })
 
--- The answer to a line that was read to its end.
 abbrev pub LineAnswered : Line → Answer → Type 0
 LineAnswered l r = elim (l .state) [ Gap ↦ Answered (scan-of l .numbers) r | Number n ↦ Answered (scan-of l .numbers) r | Stopped f ↦ r ≡ NoPrograms (stop-reason f (l .column)) ]
 
-abbrev pub fault-text : Fault → List ℕ
-fault-text NotNumber = codes "not a number"
-fault-text TooLarge = codes "a number over 32 bits"
-fault-text TooMany = codes "too long"
-
 abbrev pub why-text : Why → List ℕ
 why-text Empty = codes "an empty line"
-why-text (NoNumbers stop) = fault-text (stop .fault) ++ (codes ", at column " ++ decimal (stop .column))
+why-text (NotNumber column) = codes "not a number, at column " ++ decimal column
+why-text (TooLarge column) = codes "a number over 32 bits, at column " ++ decimal column
 why-text (Refused r) = refusal-text r
 
 abbrev pub answer-text : Answer → List ℕ

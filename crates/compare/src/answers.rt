@@ -1,7 +1,10 @@
 // What is answered to a line of words.
+ghost use Prim.Native.Nat.{ℕ};
+ghost use mathlib.Core.List.{List, [], _∷_, _++_};
 ghost use mathlib.Core.Path.{_≡_};
 ghost use Rattle.std.specs.declared.option.Option.the-variants.{Some};
-ghost use Rattle.compare.specs.Answering.{Answered, LineAnswered, stop-reason, fault-text, why-text, answer-text};
+ghost use Rattle.lines.specs.Scanning.{HasRead};
+ghost use Rattle.compare.specs.Answering.{AnswerTo, Answered, LineAnswered, answer-text, stop-reason, why-text};
 use lines::Fault;
 use lines::Line;
 use lines::Stop;
@@ -18,11 +21,12 @@ const TOO_LONG: Refusal = Refusal {
     at: MAX_WORDS,
 };
 
-// Why a line is no two programs: it is empty, its bytes are not numbers, or its numbers are not two programs.
+// Why a line is no two programs: it has no words, its bytes are no numbers from some column on, or as the reader says.
 #[derive(Clone, Copy)]
 pub enum Why {
     Empty,
-    NoNumbers(Stop),
+    NotNumber(usize),
+    TooLarge(usize),
     Refused(Refusal),
 }
 
@@ -50,29 +54,20 @@ fn stop_reason(stop: Stop) -> Why
     ensures { λ r. ⌜ r ≡ stop-reason (stop .fault) (stop .column) ⌝ }
 {
     match stop.fault {
+        Fault::NotNumber => Why::NotNumber(stop.column),
+        Fault::TooLarge => Why::TooLarge(stop.column),
         Fault::TooMany => Why::Refused(TOO_LONG),
-        Fault::NotNumber | Fault::TooLarge => Why::NoNumbers(stop),
     }
 }
 
-// The answer to a line that was read to its end.
+// The answer to a line that was read to its end, the newline included.
 pub fn answer_line(line: &Line) -> Answer
-    ensures { λ r. ⌜ LineAnswered (now (line .entry)) r ⌝ }
+    ensures reason { λ r. ⌜ LineAnswered (now (line .entry)) r ⌝ }
+    ensures answer { λ r. ⌜ ((bs : List ℕ) → HasRead (bs ++ 10 ∷ []) (now (line .entry)) → AnswerTo bs r) ⌝ }
 {
     match line.numbers() {
         Ok(words) => answer_words(words),
         Err(stop) => Answer::NoPrograms(stop_reason(stop)),
-    }
-}
-
-// The fault in words.
-fn fault_text(fault: Fault) -> &'static str
-    ensures { λ r. ⌜ now r ≡ fault-text fault ⌝ }
-{
-    match fault {
-        Fault::NotNumber => "not a number",
-        Fault::TooLarge => "a number over 32 bits",
-        Fault::TooMany => "too long",
     }
 }
 
@@ -82,10 +77,8 @@ pub impl fmt::Display for Why as WhyDisplay {
     fn fmt<W: fmt::Write>(&self, f: &mut fmt::Formatter<W>) -> fmt::Result {
         match *self {
             Why::Empty => write!(f, "an empty line"),
-            Why::NoNumbers(Stop { fault, column }) => {
-                let text = fault_text(fault);
-                write!(f, "{text}, at column {column}")
-            }
+            Why::NotNumber(column) => write!(f, "not a number, at column {column}"),
+            Why::TooLarge(column) => write!(f, "a number over 32 bits, at column {column}"),
             Why::Refused(refusal) => write!(f, "{refusal}"),
         }
     }

@@ -5,7 +5,7 @@ use lines::Line;
 use std::alloc::AllocError;
 use std::alloc::Global;
 use std::io;
-use std::io::Read;
+use std::io::BufRead;
 use std::io::Write;
 
 // What ended it early.
@@ -22,50 +22,59 @@ pub impl From<AllocError> for Trouble as TroubleFromAlloc {
     }
 }
 
-// Writes the answer to a line that was read to its end.
-fn tell<W: Write>(line: &Line, out: &mut W) -> Result<(), Trouble> {
-    let answer = answer_line(line);
-    match writeln!(out, "{answer}") {
+// What a write came to.
+fn written(result: io::Result<()>) -> Result<(), Trouble> {
+    match result {
         Ok(()) => Ok(()),
         Err(e) => Err(Trouble::Output(e)),
     }
 }
 
-// Goes on with the next bytes of the input.
+// Reads the next bytes, and answers each line that ends in them.
 fn answer_bytes<W: Write>(bytes: &[u8], line: &mut Line, out: &mut W) -> Result<(), Trouble> {
     for byte in bytes {
         line.push(*byte)?;
         if *byte == b'\n' {
-            tell(line, out)?;
+            let answer = answer_line(line);
+            written(writeln!(out, "{answer}"))?;
             line.clear();
         }
     }
-    Ok(())
+    written(out.flush())
 }
 
-// Answers each line of the input. It needs no more memory than the numbers of one line.
-pub fn answer_lines<R: Read, W: Write>(
+// Goes on with as much of the input as there is at hand, and says how much that was: nothing at its end.
+fn answer_some<R: BufRead, W: Write>(
+    input: &mut R,
+    line: &mut Line,
+    out: &mut W,
+) -> Result<usize, Trouble> {
+    let bytes = match input.fill_buf() {
+        Ok(bytes) => bytes,
+        Err(e) => return Err(Trouble::Input(e)),
+    };
+    let n = bytes.len();
+    answer_bytes(bytes, line, out)?;
+    input.consume(n);
+    Ok(n)
+}
+
+// Answers each line of the input, and writes the answers out before it waits for more input. It needs no more memory
+// than the numbers of one line.
+pub fn answer_lines<R: BufRead, W: Write>(
     input: &mut R,
     out: &mut W,
     heap: Global,
 ) -> Result<(), Trouble> {
-    let mut line = Line::new(heap, reader::MAX_WORDS);
-    let mut buf = [0u8; 4096];
+    let mut line = Line::new(heap);
     for _ in 0..u64::MAX {
-        let n = match input.read(&mut buf) {
-            Ok(n) => n,
-            Err(e) => return Err(Trouble::Input(e)),
-        };
-        if n == 0 {
+        if answer_some(input, &mut line, out)? == 0 {
             break;
         }
-        answer_bytes(&buf[0..n], &mut line, out)?;
     }
-    if !line.is_empty() {
-        answer_bytes(b"\n", &mut line, out)?;
+    // the last line may have no newline
+    if line.is_empty() {
+        return Ok(());
     }
-    match out.flush() {
-        Ok(()) => Ok(()),
-        Err(e) => Err(Trouble::Output(e)),
-    }
+    answer_bytes(b"\n", &mut line, out)
 }

@@ -33,7 +33,7 @@ pub fn command_of(mut args: Args) -> Result<Command, Misuse> {
     let command = match option.as_str() {
         "--help" | "-h" => Command::Help,
         "--version" => Command::Version,
-        "--words" => Command::Words(source_of(args.next())),
+        "--words" => Command::Words(source_of(args.next())?),
         _ => return Err(Misuse::Unknown(option)),
     };
     match args.next() {
@@ -42,16 +42,17 @@ pub fn command_of(mut args: Args) -> Result<Command, Misuse> {
     }
 }
 
-fn source_of(name: Option<String>) -> Source {
-    match name {
-        Some(name) => {
-            if name.as_str() == "-" {
-                Source::Stdin
-            } else {
-                Source::File(name)
-            }
-        }
-        None => Source::Stdin,
+// The source of this name. What else begins as an option does is not taken for a file.
+fn source_of(name: Option<String>) -> Result<Source, Misuse> {
+    let Some(name) = name else {
+        return Ok(Source::Stdin);
+    };
+    if name.as_str() == "-" {
+        Ok(Source::Stdin)
+    } else if name.as_str().starts_with('-') {
+        Err(Misuse::Unknown(name))
+    } else {
+        Ok(Source::File(name))
     }
 }
 
@@ -59,7 +60,7 @@ pub impl fmt::Display for Misuse as MisuseDisplay {
     fn fmt<W: fmt::Write>(&self, f: &mut fmt::Formatter<W>) -> fmt::Result {
         match self {
             Misuse::Nothing => write!(f, "nothing is asked for"),
-            Misuse::Unknown(option) => write!(f, "no such option: {option}"),
+            Misuse::Unknown(option) => write!(f, "not understood: {option}"),
             Misuse::TooMany(more) => write!(f, "one argument too many: {more}"),
         }
     }

@@ -17,7 +17,7 @@ fn named(command: Result<Command, Misuse>) -> &'static str {
     }
 }
 
-const LINES: [(&[&str], &str); 9] = [
+const LINES: [(&[&str], &str); 10] = [
     (&["compare"], "nothing"),
     (&["compare", "--help"], "help"),
     (&["compare", "-h"], "help"),
@@ -26,6 +26,7 @@ const LINES: [(&[&str], &str); 9] = [
     (&["compare", "--words", "-"], "words of standard input"),
     (&["compare", "--words", "FILE"], "words of a file"),
     (&["compare", "--word"], "unknown"),
+    (&["compare", "--words", "--help"], "unknown"),
     (&["compare", "--words", "FILE", "FILE"], "too many"),
 ];
 

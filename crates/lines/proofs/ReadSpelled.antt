@@ -1,6 +1,6 @@
 -- What is read is what the bytes spell.
 use mathlib.Core.Path.{_≡_, refl, sym, ap, _∙_}
-use mathlib.Core.Bool.{Bool, true, false, cond}
+use mathlib.Core.Bool.{Bool, true, false}
 use mathlib.Core.List.{List, [], _∷_, _++_, append-assoc, append-nil}
 use Prim.Native.Nat.{ℕ, _+_, _-_, _*_, _^_, _<_, _≤_}
 use native.Mathlib.Decide.{decLt}
@@ -11,8 +11,6 @@ use Rattle.lines.specs.declared.Fault.{Fault}
 use Rattle.lines.specs.declared.Fault.the-variants.{NotNumber, TooLarge, TooMany}
 use Rattle.lines.specs.declared.State.{State}
 use Rattle.lines.specs.declared.State.the-variants.{Gap, Number, Stopped}
-use Rattle.lines.specs.declared.Effect.{Effect}
-use Rattle.lines.specs.declared.Effect.the-variants.{Goes, Ends}
 use Rattle.lines.specs.Spelling.{blank, digit, Digits, value, Parted, Spells, nothing, a-blank, a-number}
 use Rattle.lines.specs.Scanning.{Scan, after, scanned, started, Fit}
 use Rattle.lines.proofs.Scans.{gap-blank, gap-digit, gap-other, number-blank, number-full, number-digit, number-large, number-other}
@@ -59,12 +57,13 @@ module _ (most : ℕ) (ns : List ℕ) where
   begins : (b : ℕ) (bs pre : List ℕ) → digit b ≡ true → SpelledFrom most pre (Number (b - 48)) bs ns → Spelled most pre (b ∷ bs) ns
   begins b bs pre h f =
       let r = f (digit-small b h) in
-      let v = value (b - 48) (r .0) in
-      (v ∷ r .6 .0,
-      rw (r .2) (a-number (r .0) (r .1) h (r .3) (r .4) (r .6 .1)),
-      (r .5, r .6 .2),
-      r .6 .3 ∙ append-assoc pre (v ∷ []) (r .6 .0),
-      r .6 .4)
+      let v = value (b - 48) (r .0) in (
+        v ∷ r .6 .0,
+        rw (r .2) (a-number (r .0) (r .1) h (r .3) (r .4) (r .6 .1)),
+        (r .5, r .6 .2),
+        r .6 .3 ∙ append-assoc pre (v ∷ []) (r .6 .0),
+        r .6 .4,
+      )
 
   -- A number that has ended was kept, if there was room.
   ends : (b : ℕ) (bs pre : List ℕ) (n : ℕ) → blank b ≡ true → Dec (length pre < most) → Then bs → ReadsAfter b bs pre (Number n) → SpelledFrom most pre (Number n) (b ∷ bs) ns
