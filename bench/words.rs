@@ -1,4 +1,4 @@
-// The same job as `compare --words` in plain Rust, as one would write it: the baseline of the benchmark.
+// The job of `compare --words` on lines of numbers, in plain Rust as one would write it: the baseline of the benchmark.
 use std::io::{self, BufRead, BufWriter, Write};
 
 fn test<'a>(words: &'a [u32], depth: u32) -> Result<&'a [u32], (&'static str, usize)> {

@@ -27,13 +27,13 @@ const HELP: &str = "\
 compare: are two programs the same, whatever their steps do?
 
 usage: compare --words [FILE]
-       compare --help | --version
+       compare --help | -h | --version
 
   --words [FILE]  Each line of FILE (of standard input where there is no FILE, or
-                  it is -) is numbers with blanks between them: the words of two
-                  programs, one after the other. Each line is answered by a line,
-                  'two programs' or 'no programs: REASON'. In a reason, words are
-                  counted from 0 and columns from 1.
+                  it is -) is decimal numbers with blanks between them: the words
+                  of two programs, one after the other. Each line is answered by a
+                  line, 'two programs' or 'no programs: REASON'. In a reason, words
+                  are counted from 0, and columns, which are bytes, from 1.
 
 A program as words:                     A test as words:
   0 test          goes on where it        0            always
@@ -45,6 +45,8 @@ A program as words:                     A test as words:
 
 Each program has at most 12 steps and is at most 64 deep; both together have at
 most 4096 words. 'while 0 do 1' is 2 4 2 0 2 0 1 1 0 5 2 0.
+
+The status is 0 if every line was answered, and 1 otherwise.
 ";
 
 // What ended the program early.
