@@ -10,12 +10,14 @@
 --     InRange     it keeps each limit: known, at most 64 deep, at most 12 steps written
 use Prim.Native.Nat.{ℕ, suc, _+_, _<_, _≤_, max}
 
+-- Tests have numbers below this, and steps below the next.
 abbrev pub test-count : ℕ
 test-count = 4
 
 abbrev pub step-count : ℕ
 step-count = 8
 
+-- A program in range is at most so deep, and has at most so many steps written.
 abbrev pub max-depth : ℕ
 max-depth = 64
 

@@ -13,6 +13,7 @@ use Prim.Native.Nat.{ℕ, _≤_}
 use lib.ListN.{length}
 use Rattle.kat.specs.Programs.{Test, always, never, test, both, any, opposite, Program, guard, step, seq, choice, star, InRange}
 
+-- Two programs have at most so many words.
 abbrev pub max-words : ℕ
 max-words = 4096
 

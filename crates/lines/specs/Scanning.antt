@@ -3,7 +3,7 @@
 --     effect    what a byte makes of where reading stands: it goes on, or a number has ended
 --     after     what a byte makes of a scan that keeps at most so many numbers
 --     scanned   what bytes make of it, one after the other
---     HasRead   what a line has read
+--     HasRead   the bytes that a line has read
 --     LineRead  what it leaves of the bytes of a line, and a newline, is what they spell
 use mathlib.Core.Path.{_≡_}
 use mathlib.Core.Bool.{cond}
@@ -48,6 +48,7 @@ effect Gap b = cond (blank b) (Goes Gap) (cond (digit b) (Goes (Number (b - 48))
 effect (Number n) b = cond (blank b) (Ends n) (cond (digit b) (Goes (grown (10 * n + (b - 48)))) (Goes (Stopped NotNumber)))
 effect (Stopped f) b = Goes (Stopped f)
 
+-- A number that has ended is kept, if there is room for one more.
 abbrev pub kept : ℕ → List ℕ → Effect → Scan
 kept most ns (Goes s) = record { numbers = ns; state = s }
 kept most ns (Ends n) = cond (ltb (length ns) most) (record { numbers = ns ++ n ∷ []; state = Gap }) (record { numbers = ns; state = Stopped TooMany })

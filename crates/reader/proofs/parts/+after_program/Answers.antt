@@ -1,5 +1,5 @@
-use Rattle.std.proofs.shelf.Results.{err-from-errBy, cases-weaker}
-use Rattle.reader.proofs.ProgramsRead.{guard-fault, guard-read, step-read, first-fault, second-fault, both-read, star-fault, star-read}
+use Rattle.std.proofs.shelf.Results.{err-from-errBy}
+use Rattle.reader.proofs.ProgramsRead.{guard-fault, guard-read, step-read, first-fault, program-second, program-only}
 use Rattle.reader.proofs.parts.+after_program.Needs as need
 
 pub returns-in-Break-rest : need.returns-in-Break-rest
@@ -19,16 +19,7 @@ returns-in-Break-second t c =
     rw (p .1, p .2) (first-fault _ _ _ _ _ (c .in-Sequence .is) (c .in-Continue-head .ensures tt) _ (c .in-Break-second .ensures tt))
 
 pub returns-in-Continue-second : need.returns-in-Continue-second
-returns-in-Continue-second t c =
-    let h = c .in-Continue-head .ensures tt in
-    let r = c .in-Continue-second .ensures tt in
-    cases-weaker (c .after-program-in-Sequence .result) (c .after-program-in-Sequence .ensures)
-    (λ x s. both-read _ _ _ _ _ (c .in-Sequence .is) h _ _ _ _ r s)
-    (λ f s. second-fault _ _ _ _ _ (c .in-Sequence .is) h _ _ f r s)
+returns-in-Continue-second t c = program-second _ _ _ _ _ (c .in-Sequence .is) (c .in-Continue-head .ensures tt) (λ x. x .0 .now) (λ x. x .1) (c .after-program-in-Sequence .result) _ _ (c .in-Continue-second .ensures tt) (c .after-program-in-Sequence .ensures)
 
 pub returns-in-Star : need.returns-in-Star
-returns-in-Star t c =
-    let h = c .in-Continue-head .ensures tt in
-    cases-weaker (c .after-program-in-Star .result) (c .after-program-in-Star .ensures)
-    (λ x s. star-read _ _ _ _ _ (c .in-Star .is) h _ _ s)
-    (λ f s. star-fault _ _ _ _ _ (c .in-Star .is) h f s)
+returns-in-Star t c = program-only _ _ _ _ _ (c .in-Star .is) (c .in-Continue-head .ensures tt) (λ x. x .0 .now) (λ x. x .1) (c .after-program-in-Star .result) (c .after-program-in-Star .ensures)
