@@ -6,6 +6,7 @@ mod OnePart
 mod TestGrammar
 mod ProgramGrammar
 mod HeadFaults
+mod NoHeads
 mod TestsRead
 mod ProgramsRead
 mod PairFaults

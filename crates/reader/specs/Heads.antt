@@ -2,6 +2,7 @@
 --     head-words    the words that a head stands for
 --     HeadFits      there is room for what begins so: for d levels and k steps
 --     HeadIn        the head h stands first in the words ws, the rest follows it, and there is room for it
+--     NoHead        no head does
 use mathlib.Core.Path.{_≡_}
 use mathlib.Core.List.{List, [], _∷_, _++_}
 use Prim.Native.Nat.{ℕ, _<_}
@@ -28,6 +29,9 @@ HeadFits d k Star = 0 < d
 abbrev pub HeadIn : ℕ → ℕ → List ℕ → Head → List ℕ → Type 0
 HeadIn d k ws h rest = (ws ≡ head-words h ++ rest) × HeadFits d k h
 
+abbrev pub NoHead : ℕ → ℕ → List ℕ → Type 0
+NoHead d k ws = (h : Head) (rest : List ℕ) → HeadIn d k ws h rest → ⊥
+
 -- the same of tests, which have no steps
 abbrev pub test-head-words : TestHead → List ℕ
 test-head-words Always = 0 ∷ []
@@ -47,3 +51,6 @@ TestHeadFits d Opposite = 0 < d
 
 abbrev pub TestHeadIn : ℕ → List ℕ → TestHead → List ℕ → Type 0
 TestHeadIn d ws h rest = (ws ≡ test-head-words h ++ rest) × TestHeadFits d h
+
+abbrev pub NoTestHead : ℕ → List ℕ → Type 0
+NoTestHead d ws = (h : TestHead) (rest : List ℕ) → TestHeadIn d ws h rest → ⊥

@@ -12,6 +12,7 @@ use Rattle.reader.specs.declared.refusals.Reason.the-variants.{Ended, OutOfRan
 use Rattle.reader.specs.declared.refusals.Fault.{Fault}
 use Rattle.reader.specs.Limits.{TestKeeps}
 use Rattle.reader.specs.Faults.{All, Met}
+use Rattle.reader.specs.Heads.{NoHead, NoTestHead}
 use Rattle.reader.specs.Reading.{Told}
 
 abbrev pub TestIn : ℕ → List ℕ → List ℕ → Type 0
@@ -28,6 +29,13 @@ ProgramFault d k = FaultIn words (Keeps d k)
 
 abbrev pub TestFault : ℕ → List ℕ → Fault → Type 0
 TestFault d = FaultIn test-words (TestKeeps d)
+
+-- the fault is met in the head already
+abbrev pub HeadFault : ℕ → ℕ → List ℕ → Fault → Type 0
+HeadFault d k ws f = ProgramFault d k ws f × NoHead d k ws
+
+abbrev pub TestHeadFault : ℕ → List ℕ → Fault → Type 0
+TestHeadFault d ws f = TestFault d ws f × NoTestHead d ws
 
 -- the fault in words that are not too long, read as two programs
 abbrev pub PairFault : List ℕ → Fault → Type 0

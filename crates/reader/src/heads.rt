@@ -4,7 +4,7 @@ ghost use mathlib.Core.List.{_∷_};
 ghost use mathlib.Core.Path.{_≡_};
 ghost use Rattle.std.specs.Results.{Cases};
 ghost use Rattle.reader.specs.Heads.{HeadIn, TestHeadIn};
-ghost use Rattle.reader.specs.Parts.{BadNumber, ProgramFault, TestFault};
+ghost use Rattle.reader.specs.Parts.{BadNumber, HeadFault, TestHeadFault};
 use crate::refusals::Fault;
 use crate::refusals::Reason;
 
@@ -54,7 +54,7 @@ fn number(words: &[u32], limit: u32) -> Result<(u32, &[u32]), Fault>
 
 // The head of the program that the words begin with, and what follows it, where there is room for so many levels and steps.
 pub fn head_of(words: &[u32], depth: u32, steps: u32) -> Result<(Head, &[u32]), Fault>
-    ensures { λ r. ⌜ Cases r (λ x. HeadIn depth steps (now (words .entry)) (x .0) (now (x .1))) (ProgramFault depth steps (now (words .entry))) ⌝ }
+    ensures { λ r. ⌜ Cases r (λ x. HeadIn depth steps (now (words .entry)) (x .0) (now (x .1))) (HeadFault depth steps (now (words .entry))) ⌝ }
 {
     let Some((code, rest)) = words.split_first() else {
         return Err(Fault::at(Reason::Ended, words));
@@ -84,7 +84,7 @@ pub fn head_of(words: &[u32], depth: u32, steps: u32) -> Result<(Head, &[u32]), 
 
 // The head of the test that the words begin with, and what follows it, where there is room for so many levels.
 pub fn test_head_of(words: &[u32], depth: u32) -> Result<(TestHead, &[u32]), Fault>
-    ensures { λ r. ⌜ Cases r (λ x. TestHeadIn depth (now (words .entry)) (x .0) (now (x .1))) (TestFault depth (now (words .entry))) ⌝ }
+    ensures { λ r. ⌜ Cases r (λ x. TestHeadIn depth (now (words .entry)) (x .0) (now (x .1))) (TestHeadFault depth (now (words .entry))) ⌝ }
 {
     let Some((code, rest)) = words.split_first() else {
         return Err(Fault::at(Reason::Ended, words));
