@@ -1,4 +1,6 @@
 // A program as an automaton whose places are its steps, and the sets of places that a trace may come to.
+#![tactic(auto)]
+
 mod atoms;
 mod automata;
 mod read;

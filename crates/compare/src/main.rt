@@ -1,4 +1,6 @@
 // compare: says of each line of words whether it is two programs.
+#![tactic(auto)]
+
 mod answers;
 mod filter;
 mod options;

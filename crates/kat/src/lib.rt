@@ -1,4 +1,6 @@
 // Kleene algebra with tests: the definitions in specs/, and the theory above them, proved in proofs/.
+#![tactic(auto)]
+
 ghost use Rattle.kat.specs.Examples.{Examples};
 ghost use Rattle.kat.specs.Theory.{Theory};
 

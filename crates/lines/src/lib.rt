@@ -1,4 +1,6 @@
 // Lines of decimal numbers, read byte by byte: a line may be as long as it likes, and needs no more memory than its numbers.
+#![tactic(auto)]
+
 ghost use Rattle.std.specs.Prelude.{◌≡◌, ℕ, List, [], ◌∷◌, ◌++◌, MatchResult, ◌==◌};
 ghost use Rattle.lines.specs.Scanning.{Complete, Fresh, HasRead, LineRead, Pushed, Same, StoppedAt, effect, scan_of};
 

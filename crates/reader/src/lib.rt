@@ -1,4 +1,6 @@
 // Reads words as two programs in range, or says why they are none.
+#![tactic(auto)]
+
 mod heads;
 mod pairs;
 mod parts;

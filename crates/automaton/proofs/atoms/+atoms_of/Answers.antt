@@ -5,44 +5,44 @@ use Rattle.automaton.proofs.Masks.{always_atoms, never_atoms, test_atoms, both_a
 use Rattle.automaton.proofs.atoms.+atoms_of.Goals as goal
 
 pub returns-in-Always : goal.returns-in-Always
-returns-in-Always t c = always_read _ _ _ _ c.in-ok-head.ensures c.in-Always.is _ always_atoms
+returns-in-Always t c = always_read _ _ _ _ c.in_ok-head.ensures c.in-Always.is _ always_atoms
 
 pub returns-in-Never : goal.returns-in-Never
-returns-in-Never t c = never_read _ _ _ _ c.in-ok-head.ensures c.in-Never.is _ never_atoms
+returns-in-Never t c = never_read _ _ _ _ c.in_ok-head.ensures c.in-Never.is _ never_atoms
 
 pub returns-in-Test : goal.returns-in-Test
-returns-in-Test t c = number_read _ _ _ _ c.in-ok-head.ensures _ c.in-Test.is _ (test_atoms _)
+returns-in-Test t c = number_read _ _ _ _ c.in_ok-head.ensures _ c.in-Test.is _ (test_atoms _)
 
-pub returns-in-err-one : goal.returns-in-err-one
-returns-in-err-one t c =
-    let p = err_from_is_err_and c.from-residual-in-err-one.result c.from-residual-in-err-one.ensures.1 in
-    rw (p.1, p.2) (test_first_fault _ _ _ _ c.in-ok-head.ensures (inl c.in-Both.is) _ c.in-err-one.ensures)
+pub returns-in_err-one-in-Both : goal.returns-in_err-one-in-Both
+returns-in_err-one-in-Both t c =
+    let p = err_from_is_err_and c.from_residual-in_err-one-in-Both.result c.from_residual-in_err-one-in-Both.ensures.1 in
+    rw (p.1, p.2) (test_first_fault _ _ _ _ c.in_ok-head.ensures (inl c.in-Both.is) _ c.in_err-one-in-Both.ensures)
 
-pub returns-in-err-other : goal.returns-in-err-other
-returns-in-err-other t c =
-    let p = err_from_is_err_and c.from-residual-in-err-other.result c.from-residual-in-err-other.ensures.1 in
-    rw (p.1, p.2) (test_second_fault _ _ _ _ c.in-ok-head.ensures _ _ c.in-ok-one.ensures (inl c.in-Both.is) _ c.in-err-other.ensures)
+pub returns-in_err-other-in-Both : goal.returns-in_err-other-in-Both
+returns-in_err-other-in-Both t c =
+    let p = err_from_is_err_and c.from_residual-in_err-other-in-Both.result c.from_residual-in_err-other-in-Both.ensures.1 in
+    rw (p.1, p.2) (test_second_fault _ _ _ _ c.in_ok-head.ensures _ _ c.in_ok-one-in-Both.ensures (inl c.in-Both.is) _ c.in_err-other-in-Both.ensures)
 
-pub returns-in-ok-other : goal.returns-in-ok-other
-returns-in-ok-other t c = both_read _ _ _ _ c.in-ok-head.ensures _ _ c.in-ok-one.ensures c.in-Both.is _ _ _ (both_atoms _ _) c.in-ok-other.ensures
+pub returns-in_ok-other-in-Both : goal.returns-in_ok-other-in-Both
+returns-in_ok-other-in-Both t c = both_read _ _ _ _ c.in_ok-head.ensures _ _ c.in_ok-one-in-Both.ensures c.in-Both.is _ _ _ (both_atoms _ _) c.in_ok-other-in-Both.ensures
 
-pub returns-in-err-one-2 : goal.returns-in-err-one-2
-returns-in-err-one-2 t c =
-    let p = err_from_is_err_and c.from-residual-in-err-one-2.result c.from-residual-in-err-one-2.ensures.1 in
-    rw (p.1, p.2) (test_first_fault _ _ _ _ c.in-ok-head.ensures (inr c.in-Any.is) _ c.in-err-one-2.ensures)
+pub returns-in_err-one-in-Any : goal.returns-in_err-one-in-Any
+returns-in_err-one-in-Any t c =
+    let p = err_from_is_err_and c.from_residual-in_err-one-in-Any.result c.from_residual-in_err-one-in-Any.ensures.1 in
+    rw (p.1, p.2) (test_first_fault _ _ _ _ c.in_ok-head.ensures (inr c.in-Any.is) _ c.in_err-one-in-Any.ensures)
 
-pub returns-in-err-other-2 : goal.returns-in-err-other-2
-returns-in-err-other-2 t c =
-    let p = err_from_is_err_and c.from-residual-in-err-other-2.result c.from-residual-in-err-other-2.ensures.1 in
-    rw (p.1, p.2) (test_second_fault _ _ _ _ c.in-ok-head.ensures _ _ c.in-ok-one-2.ensures (inr c.in-Any.is) _ c.in-err-other-2.ensures)
+pub returns-in_err-other-in-Any : goal.returns-in_err-other-in-Any
+returns-in_err-other-in-Any t c =
+    let p = err_from_is_err_and c.from_residual-in_err-other-in-Any.result c.from_residual-in_err-other-in-Any.ensures.1 in
+    rw (p.1, p.2) (test_second_fault _ _ _ _ c.in_ok-head.ensures _ _ c.in_ok-one-in-Any.ensures (inr c.in-Any.is) _ c.in_err-other-in-Any.ensures)
 
-pub returns-in-ok-other-2 : goal.returns-in-ok-other-2
-returns-in-ok-other-2 t c = any_read _ _ _ _ c.in-ok-head.ensures _ _ c.in-ok-one-2.ensures c.in-Any.is _ _ _ (any_atoms _ _) c.in-ok-other-2.ensures
+pub returns-in_ok-other-in-Any : goal.returns-in_ok-other-in-Any
+returns-in_ok-other-in-Any t c = any_read _ _ _ _ c.in_ok-head.ensures _ _ c.in_ok-one-in-Any.ensures c.in-Any.is _ _ _ (any_atoms _ _) c.in_ok-other-in-Any.ensures
 
-pub returns-in-err-atoms : goal.returns-in-err-atoms
-returns-in-err-atoms t c =
-    let p = err_from_is_err_and c.from-residual-in-err-atoms.result c.from-residual-in-err-atoms.ensures.1 in
-    rw (p.1, p.2) (opposite_fault _ _ _ _ c.in-ok-head.ensures c.in-Opposite.is _ c.in-err-atoms.ensures)
+pub returns-in_err-atoms-in-Opposite : goal.returns-in_err-atoms-in-Opposite
+returns-in_err-atoms-in-Opposite t c =
+    let p = err_from_is_err_and c.from_residual-in_err-atoms-in-Opposite.result c.from_residual-in_err-atoms-in-Opposite.ensures.1 in
+    rw (p.1, p.2) (opposite_fault _ _ _ _ c.in_ok-head.ensures c.in-Opposite.is _ c.in_err-atoms-in-Opposite.ensures)
 
-pub returns-in-ok-atoms : goal.returns-in-ok-atoms
-returns-in-ok-atoms t c = opposite_read _ _ _ _ c.in-ok-head.ensures c.in-Opposite.is _ _ _ (opposite_atoms _) c.in-ok-atoms.ensures
+pub returns-in_ok-atoms-in-Opposite : goal.returns-in_ok-atoms-in-Opposite
+returns-in_ok-atoms-in-Opposite t c = opposite_read _ _ _ _ c.in_ok-head.ensures c.in-Opposite.is _ _ _ (opposite_atoms _) c.in_ok-atoms-in-Opposite.ensures

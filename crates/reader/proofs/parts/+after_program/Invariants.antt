@@ -1,5 +1,5 @@
 -- The depth that is left falls.
 use Rattle.reader.proofs.parts.+after_program.Given as goal
 
-abbrev pub decreases-after-program : goal.decreases-after-program
-decreases-after-program l = l.depth
+abbrev pub decreases-after_program : goal.decreases-after_program
+decreases-after_program l = l.depth

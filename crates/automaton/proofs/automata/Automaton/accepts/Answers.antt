@@ -1,4 +1,4 @@
 use Rattle.automaton.proofs.automata.Automaton.accepts.Goals as goal
 
 pub returns : goal.returns
-returns c of t = (c.row-of.ensures of t).ends_are
+returns c of t = (c.row_of.ensures of t).ends_are

@@ -5,4 +5,4 @@ pub returns-then-step-ge-STEPS : goal.returns-then-step-ge-STEPS
 returns-then-step-ge-STEPS c = next_none _ _ _ _ c.if-step-ge-STEPS.true
 
 pub returns : goal.returns
-returns c = next_some _ _ _ _ _ c.if-step-ge-STEPS.false c.row-of.ensures
+returns c = next_some _ _ _ _ _ c.if-step-ge-STEPS.false c.row_of.ensures
