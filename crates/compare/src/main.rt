@@ -11,6 +11,7 @@ use filter::{Trouble, answer_lines};
 use options::{Command, Misuse, Source, command_of};
 use std::fs::File;
 use std::io::{BufReader, BufWriter, Read};
+use std::process::ExitCode;
 use std::{env, fmt, io};
 
 const VERSION: &str = "compare 0.1.0\n";
@@ -72,8 +73,12 @@ fn print(rt: &HostRuntime, text: &str) -> Result<(), Failure> {
 
 // Answers the lines of the input, which comes from this source.
 fn answer<R: Read + Drop>(rt: &HostRuntime, source: Source, input: R) -> Result<(), Failure> {
-    let mut input = BufReader::new(input);
-    let mut out = BufWriter::new(rt.stdout());
+    let Ok(mut input) = BufReader::new(rt.alloc(), input) else {
+        return Err(Failure::Memory);
+    };
+    let Ok(mut out) = BufWriter::new(rt.alloc(), rt.stdout()) else {
+        return Err(Failure::Memory);
+    };
     match answer_lines(&mut input, &mut out, rt.alloc()) {
         Ok(()) => Ok(()),
         Err(Trouble::Input(e)) => Err(Failure::Input(source, e)),
@@ -106,10 +111,10 @@ fn run(rt: &HostRuntime) -> Result<(), Failure> {
     }
 }
 
-fn main(rt: HostRuntime) -> Result<(), Failure> {
-    let result = run(&rt);
-    if let Err(failure) = &result {
-        let _ = eprintln!(rt; "compare: {failure}");
-    }
-    result
+fn main(rt: HostRuntime) -> ExitCode {
+    let Err(failure) = run(&rt) else {
+        return ExitCode::SUCCESS;
+    };
+    let _ = eprintln!(rt; "compare: {failure}");
+    ExitCode::FAILURE
 }
