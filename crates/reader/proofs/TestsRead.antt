@@ -67,26 +67,32 @@ module _ (d : ℕ) (h : TestHead) (ws rest : List ℕ) (b : TestHeadIn d ws h re
     any_read o = let x = any_head d h ws rest o b in parts_read tests anys d 0 ws rest x.0 x.1 second 0 M (λ t m. refl) r
 
 -- nothing more is said of a test
-abbrev Plain : terms.Test → Type 0
+abbrev pub Plain : terms.Test → Type 0
 Plain t = Unit {0}
+
+pub plain : (d : ℕ) (ws rest : List ℕ) → TestIn d ws rest → TestAs Plain d ws rest
+plain d ws rest r = (r.0, r.1, r.2, tt)
+
+bare : (d : ℕ) (ws rest : List ℕ) → TestAs Plain d ws rest → TestIn d ws rest
+bare d ws rest r = (r.0, r.1, r.2)
 
 module _ (d : ℕ) (h : TestHead) (ws rest : List ℕ) (b : TestHeadIn d ws h rest) where
   -- A head without parts is a test.
   pub test_leaf : (h ≡ Always) ⊎ ((h ≡ Never) ⊎ ((n : ℕ) × (h ≡ Test n))) → TestIn d ws rest
-  test_leaf (inl o) = always_read d h ws rest b o Plain tt
-  test_leaf (inr (inl o)) = never_read d h ws rest b o Plain tt
-  test_leaf (inr (inr o)) = number_read d h ws rest b o.0 o.1 Plain (λ k. tt)
+  test_leaf (inl o) = bare d ws rest (always_read d h ws rest b o Plain tt)
+  test_leaf (inr (inl o)) = bare d ws rest (never_read d h ws rest b o Plain tt)
+  test_leaf (inr (inr o)) = bare d ws rest (number_read d h ws rest b o.0 o.1 Plain (λ k. tt))
 
   two_read : (o : (h ≡ Both) ⊎ (h ≡ Any)) (second more : List ℕ) → TestIn (d - 1) rest second → TestIn (d - 1) second more → TestIn d ws more
-  two_read (inl o) second more r s = both_read d h ws rest b second Plain r o more Plain Plain (λ t u x y. tt) s
-  two_read (inr o) second more r s = any_read d h ws rest b second Plain r o more Plain Plain (λ t u x y. tt) s
+  two_read (inl o) second more r s = bare d ws more (both_read d h ws rest b second Plain (plain (d - 1) rest second r) o more Plain Plain (λ t u x y. tt) (plain (d - 1) second more s))
+  two_read (inr o) second more r s = bare d ws more (any_read d h ws rest b second Plain (plain (d - 1) rest second r) o more Plain Plain (λ t u x y. tt) (plain (d - 1) second more s))
 
   -- What the second part comes to is what both come to.
   pub test_second : {X : Type 0} (rest_of : X → List ℕ) (r : Result X Fault) (o : (h ≡ Both) ⊎ (h ≡ Any)) (second : List ℕ) → TestIn (d - 1) rest second → MatchResult r (λ x. TestIn (d - 1) second (rest_of x)) (TestFault (d - 1) second) → MatchResult r (λ x. TestIn d ws (rest_of x)) (TestFault d ws)
   test_second rest_of (Ok x) o second p s = two_read o second (rest_of x) p s
-  test_second rest_of (Err f) o second p s = test_second_fault d h ws rest b second Plain p o f s
+  test_second rest_of (Err f) o second p s = test_second_fault d h ws rest b second Plain (plain (d - 1) rest second p) o f s
 
   -- What its part comes to is what it comes to.
   pub test_only : {X : Type 0} (rest_of : X → List ℕ) (r : Result X Fault) → h ≡ Opposite → MatchResult r (λ x. TestIn (d - 1) rest (rest_of x)) (TestFault (d - 1) rest) → MatchResult r (λ x. TestIn d ws (rest_of x)) (TestFault d ws)
-  test_only rest_of (Ok x) o s = opposite_read d h ws rest b o (rest_of x) Plain Plain (λ t x. tt) s
+  test_only rest_of (Ok x) o s = bare d ws (rest_of x) (opposite_read d h ws rest b o (rest_of x) Plain Plain (λ t x. tt) (plain (d - 1) rest (rest_of x) s))
   test_only rest_of (Err f) o s = opposite_fault d h ws rest b o f s

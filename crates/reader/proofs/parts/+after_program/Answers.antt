@@ -1,6 +1,7 @@
 use Rattle.std.proofs.Common.{arith}
 use Rattle.std.proofs.lemmas.Result.{err_from_is_err_and}
 use Rattle.reader.proofs.ProgramsRead.{guard_fault, guard_read, step_read, first_fault, program_second, program_only}
+use Rattle.reader.proofs.TestsRead.{plain}
 use Rattle.reader.proofs.parts.+after_program.Goals as goal
 
 pub returns-in_err-rest-in-Guard : goal.returns-in_err-rest-in-Guard
@@ -9,7 +10,7 @@ returns-in_err-rest-in-Guard t c =
     rw (p.1, p.2) (guard_fault _ _ _ _ _ c.in_ok-head.ensures c.in-Guard.is _ c.in_err-rest-in-Guard.ensures)
 
 pub returns-in_ok-rest-in-Guard : goal.returns-in_ok-rest-in-Guard
-returns-in_ok-rest-in-Guard t c = guard_read _ _ _ _ _ c.in_ok-head.ensures c.in-Guard.is _ _ _ (λ t x. omega arith) c.in_ok-rest-in-Guard.ensures
+returns-in_ok-rest-in-Guard t c = guard_read _ _ _ _ _ c.in_ok-head.ensures c.in-Guard.is _ _ _ (λ t x. omega arith) (plain _ _ _ c.in_ok-rest-in-Guard.ensures)
 
 pub returns-in-Step : goal.returns-in-Step
 returns-in-Step t c = step_read _ _ _ _ _ c.in_ok-head.ensures _ c.in-Step.is _ (λ n k. omega arith)
