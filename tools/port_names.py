@@ -4,7 +4,8 @@
 usage: python3 tools/port_names.py      once, at the top of the repository, after the kit's port.py
 
 It turns whole names below crates/ (.antt and .rt) and, between backticks, in README.md and docs/. Names that the checker
-makes, as those of goals, are not in its lists, and neither are names of the library.
+makes, as those of goals, are not in its lists, and neither are names of the library. It was run, and stops where it was:
+a second run would give names of today to other things.
 """
 
 import glob
@@ -99,6 +100,9 @@ def turned(text):
 
 
 def main():
+    with open("crates/kat/specs/Theory.antt", encoding="utf-8") as file:
+        if "UniqueReading" in file.read():
+            raise SystemExit("tools/port_names.py: the names are turned already")
     files = glob.glob("crates/*/**/*.antt", recursive=True) + glob.glob("crates/*/src/*.rt")
     pages = ["README.md"] + glob.glob("docs/*.md")
     for path in sorted(files + pages):

@@ -1,5 +1,5 @@
 -- What is said of places behind others.
-use Rattle.std.proofs.Common.{◌≡◌, ℕ, ◌+◌, ◌-◌, ◌<◌, Bool, true, false, ◌&&◌, ◌||◌, T, sym, refl, ap, ◌∙◌, subst, arith}
+use Rattle.std.proofs.Common.{◌≡◌, ℕ, ◌+◌, ◌<◌, Bool, true, false, ◌&&◌, ◌||◌, T, sym, refl, ap, ◌∙◌, subst, arith}
 use mathlib.Core.Bool.{and-false, or-false}
 use Rattle.kat.specs.Places.{side}
 use Rattle.kat.proofs.Sides.{side_left, side_right, Where, before, where_is}

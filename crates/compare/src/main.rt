@@ -73,12 +73,8 @@ fn print(rt: &HostRuntime, text: &str) -> Result<(), Failure> {
 
 // Answers the lines of the input, which comes from this source.
 fn answer<R: Read + Drop>(rt: &HostRuntime, source: Source, input: R) -> Result<(), Failure> {
-    let Ok(mut input) = BufReader::new(rt.alloc(), input) else {
-        return Err(Failure::Memory);
-    };
-    let Ok(mut out) = BufWriter::new(rt.alloc(), rt.stdout()) else {
-        return Err(Failure::Memory);
-    };
+    let mut input = BufReader::new(rt.alloc(), input).map_err(|_| Failure::Memory)?;
+    let mut out = BufWriter::new(rt.alloc(), rt.stdout()).map_err(|_| Failure::Memory)?;
     match answer_lines(&mut input, &mut out, rt.alloc()) {
         Ok(()) => Ok(()),
         Err(Trouble::Input(e)) => Err(Failure::Input(source, e)),

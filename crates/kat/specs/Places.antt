@@ -4,7 +4,8 @@
 --     last        past this place it may end at this atom
 --     follow      past one place, at this atom, the other may come next
 --     label       the step at a place
---     automaton_of   the automaton with these places: it may end, from the beginning, where it is nullable, and past a place
+--     automaton_of
+--                 the automaton with these places: it may end, from the beginning, where it is nullable, and past a place
 --                 where that is last; first and follow say what may come next
 use Rattle.std.specs.Prelude.{ℕ, ◌-◌, Bool, true, false, ◌&&◌, ◌||◌, ◌==◌, nat_lt}
 use Rattle.kat.specs.Programs.{Program, guard, step, seq, choice, star, steps}
