@@ -5,7 +5,7 @@
 --     scanned   what bytes make of it, one after the other
 --     HasRead   the bytes that a line has read
 --     LineRead  what it leaves of the bytes of a line, and a newline, is what they spell
-use Rattle.std.specs.Prelude.{◌≡◌, ℕ, ◌+◌, ◌-◌, ◌*◌, ◌^◌, ◌<◌, ◌≤◌, min, cond, ◌↔◌, List, [], ◌∷◌, ◌++◌, length, Ok, Err, vec_items, Result, nat_lt}
+use Rattle.std.specs.Prelude.{◌≡◌, ℕ, ◌+◌, ◌-◌, ◌*◌, ◌^◌, ◌<◌, ◌≤◌, min, cond, ◌↔◌, List, [], ◌∷◌, ◌++◌, length, Ok, Err, vec_items, vec_len, vec_capacity, Result, nat_lt}
 use Rattle.std.specs.Borrow.{Bor}
 use Rattle.lines.specs.declared.Fault.TheVariants.{NotNumber, TooLarge, TooMany}
 use Rattle.lines.specs.declared.State.{State}
@@ -76,6 +76,13 @@ pub record Pushed (l : Line) (b : ℕ) (l' : Line) : Type 0 where
 pub record Same (l l' : Line) : Type 0 where
   pub scan : scan_of l' ≡ scan_of l
   pub column : l'.column ≡ l.column
+
+-- A number ends with the byte b and is to be kept, and the memory for numbers is used up.
+pub record NeedsMemory (l : Line) (b : ℕ) : Type 0 where
+  pub number : ℕ
+  pub ends : effect l.state b ≡ Ends number
+  pub kept : vec_len l.numbers < max_numbers
+  pub full : vec_capacity l.numbers ≤ vec_len l.numbers
 
 -- Reading has not stopped, and these are the numbers that are complete.
 abbrev pub Complete : Scan → List ℕ → Type 0

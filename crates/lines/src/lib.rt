@@ -1,8 +1,8 @@
 // Lines of decimal numbers, read byte by byte: a line may be as long as it likes, and needs no more memory than its numbers.
 #![tactic(auto)]
 
-ghost use Rattle.std.specs.Prelude.{◌≡◌, ℕ, List, [], ◌∷◌, ◌++◌, MatchResult, ◌==◌};
-ghost use Rattle.lines.specs.Scanning.{Complete, Fresh, HasRead, LineRead, Pushed, Same, StoppedAt, effect, scan_of};
+ghost use Rattle.std.specs.Prelude.{◌≡◌, ℕ, List, [], ◌∷◌, ◌++◌, MatchResult, OnErr, ◌==◌};
+ghost use Rattle.lines.specs.Scanning.{Complete, Fresh, HasRead, LineRead, NeedsMemory, Pushed, Same, StoppedAt, effect, scan_of};
 
 use std::alloc::{AllocError, Global};
 
@@ -83,7 +83,8 @@ impl Line {
 
     // One byte more; where there is no memory for a number, nothing changes.
     pub fn push(&mut self, byte: u8) -> Result<(), AllocError>
-        ensures { MatchResult result (λ _. Pushed self.old byte self.new) (λ _. Same self.old self.new) }
+        ensures read { MatchResult result (λ _. Pushed self.old byte self.new) (λ _. Same self.old self.new) }
+        ensures no_memory { OnErr result (NeedsMemory self.old byte) }
     {
         let column = match self.state {
             State::Stopped(_) => self.column,
