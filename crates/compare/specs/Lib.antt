@@ -1,2 +1,3 @@
--- What the program answers.
+-- What the program answers, and what it says where it can't.
 pub mod Answering
+pub mod Messages

@@ -1,4 +1,7 @@
 // Lines in, answers out.
+ghost use Rattle.std.specs.Prelude.{◌≡◌};
+ghost use Rattle.compare.specs.declared.filter.Trouble.TheVariants.{Memory};
+
 use crate::answers::answer_line;
 use lines::Line;
 use std::alloc::{AllocError, Global};
@@ -14,6 +17,8 @@ pub enum Trouble {
 }
 
 impl From<AllocError> for Trouble {
+    ghost from_gives = { λ _ t. t ≡ Memory };
+
     fn from(_e: AllocError) -> Trouble {
         Trouble::Memory
     }

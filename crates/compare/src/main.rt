@@ -1,6 +1,8 @@
 // compare: says of each line of words whether it is two programs.
 #![tactic(auto)]
 
+ghost use Rattle.compare.specs.Messages.{failure_text};
+
 mod answers;
 mod filter;
 mod options;
@@ -53,6 +55,8 @@ enum Failure {
 }
 
 impl fmt::Display for Failure {
+    ghost output = { λ f. failure_text f };
+
     fn fmt<W: fmt::Write>(&self, f: &mut fmt::Formatter<W>) -> fmt::Result {
         match self {
             Failure::Misused(misuse) => write!(f, "{misuse}\nTry 'compare --help'."),

@@ -1,4 +1,7 @@
 // What the command line asks for.
+ghost use Rattle.std.specs.Prelude.{Some};
+ghost use Rattle.compare.specs.Messages.{misuse_text, source_text};
+
 use std::env::Args;
 use std::fmt;
 
@@ -57,6 +60,8 @@ fn source_of(name: Option<String>) -> Result<Source, Misuse> {
 }
 
 impl fmt::Display for Misuse {
+    ghost output = { λ m. Some (misuse_text m) };
+
     fn fmt<W: fmt::Write>(&self, f: &mut fmt::Formatter<W>) -> fmt::Result {
         match self {
             Misuse::Nothing => write!(f, "nothing is asked for"),
@@ -67,6 +72,8 @@ impl fmt::Display for Misuse {
 }
 
 impl fmt::Display for Source {
+    ghost output = { λ s. Some (source_text s) };
+
     fn fmt<W: fmt::Write>(&self, f: &mut fmt::Formatter<W>) -> fmt::Result {
         match self {
             Source::Stdin => write!(f, "standard input"),
