@@ -1,6 +1,7 @@
 -- What is said of places behind others.
-use Rattle.std.proofs.Common.{◌≡◌, ℕ, ◌+◌, ◌<◌, Bool, true, false, ◌&&◌, ◌||◌, T, sym, refl, ap, ◌∙◌, subst, arith}
+use Rattle.std.proofs.Common.{◌≡◌, ℕ, ◌+◌, ◌<◌, Bool, false, ◌&&◌, ◌||◌, T, sym, refl, ap, ◌∙◌, subst, arith}
 use mathlib.Core.Bool.{and-false, or-false}
+use Rattle.std.proofs.lemmas.Bool.{false_from_ne_true}
 use Rattle.kat.specs.Places.{side}
 use Rattle.kat.proofs.Sides.{side_left, side_right, Where, before, where_is}
 use Rattle.kat.proofs.Sides as sides
@@ -37,10 +38,6 @@ behind_or n y f g = by y (where_is n y)
     by y (before h) = rw (behind_before n y (λ x. f x || g x) h, behind_before n y f h, behind_before n y g h) refl
     by y (sides.behind z) = rw (behind_past n z (λ x. f x || g x), behind_past n z f, behind_past n z g) refl
 
-false_if_not : (b : Bool) → (T b → ⊥) → b ≡ false
-false_if_not true h = absurd (h tt)
-false_if_not false h = refl
-
 -- Of two parts behind n places, the second is behind the first too.
 pub behind_two : (n m y : ℕ) (f g : ℕ → Bool) → ((z : ℕ) → T (f z) → z < m) → behind n (λ z. side m z f g) y ≡ (behind n f y || behind (n + m) g y)
 behind_two n m y f g within = by y (where_is n y)
@@ -50,7 +47,7 @@ behind_two n m y f g within = by y (where_is n y)
     inner z (sides.behind w) =
         let e : n + m + w ≡ n + (m + w) = omega arith in
         let s : behind (n + m) g (n + (m + w)) ≡ g w = subst (λ x. behind (n + m) g x ≡ g w) e (behind_past (n + m) w g) in
-        let o : f (m + w) ≡ false = false_if_not (f (m + w)) (λ t. let k = within (m + w) t in omega arith) in
+        let o : f (m + w) ≡ false = false_from_ne_true (f (m + w)) (λ e. let k = within (m + w) (subst T (sym e) tt) in omega arith) in
         side_right m w f g ∙ rw (o, s) refl
 
     by : (y : ℕ) → Where n y → behind n (λ z. side m z f g) y ≡ (behind n f y || behind (n + m) g y)

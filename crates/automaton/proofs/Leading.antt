@@ -4,7 +4,7 @@ use borrow.Rule.Slice.PartMut.{mid_of, put_mid}
 use Rattle.std.proofs.lemmas.List.{get_or-set_same, get_or-set_other, length-set, places}
 use Rattle.std.proofs.lemmas.Bool.{cases_eq}
 use Rattle.automaton.specs.declared.rows.Row.{Row}
-use Rattle.automaton.specs.declared.automata.Automaton.{Automaton}
+use Rattle.automaton.specs.declared.tables.Tables.{Tables}
 use Rattle.automaton.specs.Rows.{Then, Led, row_at}
 use Rattle.automaton.specs.Building.{LedOn}
 
@@ -57,7 +57,7 @@ module _ (from k : ℕ) (rows : List Row) (next : Row) (last : List Row) (b : fr
   part_kept i (inl j) = grind (arith, places, h.as_many, part_length)
   part_kept i (inr j) = grind (arith, places, h.as_many, part_length)
 
-pub rows_led : (from to : ℕ) (old new : Automaton) (next : Row) (last : List Row) → from ≤ to → to ≤ length old.rows → Led (mid_of from (to - from) old.rows) next last → new.places ≡ old.places → new.labelled ≡ old.labelled → new.rows ≡ put_mid from (to - from) old.rows last → LedOn from to old next new
+pub rows_led : (from to : ℕ) (old new : Tables) (next : Row) (last : List Row) → from ≤ to → to ≤ length old.rows → Led (mid_of from (to - from) old.rows) next last → new.places ≡ old.places → new.labelled ≡ old.labelled → new.rows ≡ put_mid from (to - from) old.rows last → LedOn from to old next new
 rows_led from to old new next last a b h e f g =
     let n : from + (to - from) ≡ to = omega arith in
     let m : from + (to - from) ≤ length old.rows = omega arith in

@@ -4,7 +4,7 @@ mod Joining
 mod Leading
 mod Behind
 mod RowMeanings
-mod Building
+mod Adding
 mod StepPlace
 mod ReadTables
 mod OneReading

@@ -1,14 +1,12 @@
 -- The atoms at which a test holds, from those of its parts.
-use Rattle.std.proofs.Common.{◌≡◌, ℕ, zero, suc, ◌%◌, ◌<◌, Bool, true, false, cond, not, ◌&&◌, ◌||◌, T, List, [], ◌∷◌, get_or, sym, refl, ap, ◌∙◌, subst, ⊎_elim, mod-lt, arith, lit<}
-use mathlib.Core.Bool.{beq}
+use Rattle.std.proofs.Common.{◌≡◌, ℕ, zero, suc, ◌%◌, ◌<◌, true, cond, not, ◌&&◌, ◌||◌, List, [], ◌∷◌, get_or, refl, ap, ◌∙◌, mod-lt, arith, lit<}
 use lib.Bits.{bit_and, bit_or, bit_xor}
-use Rattle.std.proofs.lemmas.Bool.{lt-ltb, le-ltb, cases_eq}
+use Rattle.std.proofs.lemmas.Bool.{lt-ltb, le-ltb, agree_below, agree_below_at}
 use Rattle.kat.specs.Bits.{bit}
 use Rattle.kat.specs.Programs.{Test, always, never, test, both, any, opposite}
 use Rattle.kat.specs.Traces.{holds}
 use Rattle.kat.proofs.BitLaws.{bit_zero}
 use Rattle.kat.proofs.BitOperations.{bit_of_and, bit_of_or, bit_of_xor, bit_ones, bit_mod, bit_above}
-use Rattle.kat.proofs.Truth.{and_out}
 use Rattle.automaton.specs.Atoms.{AtomsOf}
 
 -- Cut to four tests, an atom is one of sixteen.
@@ -33,35 +31,17 @@ pub opposite_atoms : (m : ℕ) (t : Test) → AtomsOf m t → AtomsOf (bit_xor m
 opposite_atoms m t p =
     (λ a. bit_of_xor (a % 16) m 65535 ∙ ap (λ b. cond b (not (bit (a % 16) m)) (bit (a % 16) m)) (always_atoms.0 a) ∙ ap not (p.0 a), λ a h. bit_of_xor a m 65535 ∙ ap (λ b. cond b (not (bit a m)) (bit a m)) (always_atoms.1 a h) ∙ p.1 a h)
 
--- What holds of each number below n, tried one by one.
-abbrev every : ℕ → (ℕ → Bool) → Bool
-every zero f = true
-every (suc n) f = f n && every n f
-
-each : (n : ℕ) (f : ℕ → Bool) → T (every n f) → (x : ℕ) → x < n → T (f x)
-each zero f t x h = absurd (omega arith)
-each (suc n) f t x h =
-    let d = and_out (f n) (every n f) t in
-    ⊎_elim (λ e. subst (λ z. T (f z)) (sym e) d.0) (λ e. each n f d.1 x (omega arith)) (cases_eq x n)
-
-are_same : (b c : Bool) → T (beq b c) → b ≡ c
-are_same true true t = refl
-are_same true false t = absurd t
-are_same false true t = absurd t
-are_same false false t = refl
-
 -- the atoms at which each test holds
 abbrev pub masks : List ℕ
 masks = 43690 ∷ 52428 ∷ 61680 ∷ 65280 ∷ []
 
 -- A mask below 2 ^ 16 whose bits are those of a test.
-mask_atoms : (n m : ℕ) → n < 4 → m < 65536 → T (every 16 (λ a. beq (bit a m) (bit n a))) → AtomsOf m (test n)
-mask_atoms n m k b t =
-    (λ a. are_same (bit (a % 16) m) (bit n (a % 16)) (each 16 (λ a. beq (bit a m) (bit n a)) t (a % 16) (known_atom a)) ∙ bit_mod 4 n a k, λ a h. bit_above 16 a m b h)
+mask_atoms : (n m : ℕ) → n < 4 → m < 65536 → agree_below (λ a. bit a m) (bit n) 16 ≡ true → AtomsOf m (test n)
+mask_atoms n m k b t = (λ a. agree_below_at (λ a. bit a m) (bit n) 16 (a % 16) t (known_atom a) ∙ bit_mod 4 n a k, λ a h. bit_above 16 a m b h)
 
 pub test_atoms : (n : ℕ) → n < 4 → AtomsOf (get_or masks n 0) (test n)
-test_atoms zero k = mask_atoms 0 43690 k (lit< tt) tt
-test_atoms (suc zero) k = mask_atoms 1 52428 k (lit< tt) tt
-test_atoms (suc (suc zero)) k = mask_atoms 2 61680 k (lit< tt) tt
-test_atoms (suc (suc (suc zero))) k = mask_atoms 3 65280 k (lit< tt) tt
+test_atoms zero k = mask_atoms 0 43690 k (lit< tt) refl
+test_atoms (suc zero) k = mask_atoms 1 52428 k (lit< tt) refl
+test_atoms (suc (suc zero)) k = mask_atoms 2 61680 k (lit< tt) refl
+test_atoms (suc (suc (suc zero))) k = mask_atoms 3 65280 k (lit< tt) refl
 test_atoms (suc (suc (suc (suc n)))) k = absurd (omega arith)

@@ -1,5 +1,5 @@
 -- Words have one automaton only, or one fault.
-use Rattle.std.proofs.Common.{◌≡◌, ℕ, ◌%◌, ◌<◌, Bool, length, get_or, sym, ap, ◌∙◌, subst, ⊎_elim, mod-eq_of_lt, arith}
+use Rattle.std.proofs.Common.{◌≡◌, ℕ, ◌%◌, ◌<◌, Bool, get_or, sym, ◌∙◌, subst, ⊎_elim, mod-eq_of_lt, arith}
 use Rattle.std.proofs.lemmas.Bool.{cases_lt}
 use Rattle.kat.specs.Bits.{bit}
 use Rattle.kat.specs.Automata as spec
@@ -12,10 +12,11 @@ use Rattle.kat.proofs.UniqueReading.{one_program}
 use Rattle.reader.proofs.Excluded.{program_excludes}
 use Rattle.reader.proofs.OneFault.{one_fault}
 use Rattle.automaton.specs.declared.rows.Row.{Row}
-use Rattle.automaton.specs.declared.automata.Automaton.{Automaton}
+use Rattle.automaton.specs.declared.tables.Tables.{Tables}
 use Rattle.automaton.specs.Atoms.{AtomsAre}
 use Rattle.automaton.specs.Rows.{PlacesAre, RowIs, row_at}
-use Rattle.automaton.specs.Tables.{Tables, SameTables, OneReading}
+use Rattle.automaton.specs.Tables.{Describe}
+use Rattle.automaton.specs.Reading.{SameTables, OneReading}
 
 -- A set is settled by what is in it.
 same_places : (f : ℕ → Bool) (m n : ℕ) → PlacesAre f m → PlacesAre f n → m ≡ n
@@ -30,7 +31,7 @@ same_atoms f m n p q = same_bits m n (λ a. ⊎_elim (known a) (λ h. p.1 a h �
 same_next : (E : ℕ → Bool) (N : ℕ → ℕ → Bool) (r s : Row) → RowIs E N r → RowIs E N s → (a : ℕ) → a < 16 → get_or r.next a 0 ≡ get_or s.next a 0
 same_next E N r s p q a h = subst (λ b. get_or r.next b 0 ≡ get_or s.next b 0) (mod-eq_of_lt h) (same_places (N a) (get_or r.next (a % 16) 0) (get_or s.next (a % 16) 0) (p.next_are a) (q.next_are a))
 
-same_tables : (m m' : Automaton) (of : spec.Automaton) → Tables m of → Tables m' of → SameTables m m'
+same_tables : (m m' : Tables) (of : spec.Automaton) → Describe m of → Describe m' of → SameTables m m'
 same_tables m m' of t t' = record {
   places_same = t.places_are ∙ sym t'.places_are;
   ends_same = λ x h. same_atoms (of.ends (from_bit of.places x)) (row_at m.rows x).ends (row_at m'.rows x).ends (t.rows_are x (omega (arith, t.places_are))).ends_are (t'.rows_are x (omega (arith, t.places_are))).ends_are;
@@ -40,9 +41,9 @@ same_tables m m' of t t' = record {
 
 pub one_reading : OneReading
 one_reading = record {
-  same = λ ws m m' left left' r r'.
-      let e = one_program r.program r'.program r.rest r'.rest (sym r.are ∙ r'.are) in
-      (same_tables m m' (automaton_of r'.program) (subst (λ p. Tables m (automaton_of p)) e.0 r.tables) r'.tables, r.left_is ∙ ap length e.1 ∙ sym r'.left_is);
+  same = λ ws m m' rest rest' r r'.
+      let e = one_program r.program r'.program rest rest' (sym r.are ∙ r'.are) in
+      (same_tables m.tables m'.tables (automaton_of r'.program) (subst (λ p. Describe m.tables (automaton_of p)) e.0 r.tables) r'.tables, e.1);
   same_fault = one_fault words (Keeps 64 12);
-  never_both = λ ws m left f r u. program_excludes 64 12 ws r.rest r.program f r.are r.in_range u;
+  never_both = λ ws m rest f r u. program_excludes 64 12 ws rest r.program f r.are r.in_range u;
 }

@@ -1,8 +1,9 @@
 -- Where all places of a program were added to none, and the beginning behind them, the tables are its automaton.
-use Rattle.std.proofs.Common.{◌≡◌, ℕ, ◌+◌, ◌<◌, Bool, List, length, get_or, set, sym, refl, ap, ◌∙◌, subst, ⊎_elim, arith}
+use Rattle.std.proofs.Common.{◌≡◌, ℕ, ◌+◌, ◌-◌, ◌<◌, Bool, List, ◌++◌, get_or, set, sym, refl, ap, ◌∙◌, subst, ⊎_elim, arith}
 use Rattle.std.proofs.lemmas.Bool.{cases_eq}
 use Rattle.kat.specs.Bits.{bit}
-use Rattle.kat.specs.Programs.{Program, guard, step, seq, choice, star, steps, Known, known, step_count}
+use Rattle.kat.specs.Words.{words}
+use Rattle.kat.specs.Programs.{Program, InRange, guard, step, seq, choice, star, steps, Known, known, step_count}
 use Rattle.kat.specs.Places.{side, first, follow, label, ends_of, next_of, automaton_of}
 use Rattle.kat.specs.Acceptors.{from_bit}
 use Rattle.kat.proofs.BitLaws.{bit_zero}
@@ -11,9 +12,12 @@ use Rattle.kat.proofs.Sets.{at_beginning, at_place}
 use Rattle.reader.specs.Parts.{ProgramAs}
 use Rattle.automaton.specs.declared.rows.Row.{Row}
 use Rattle.automaton.specs.declared.automata.Automaton.{Automaton}
+use Rattle.automaton.specs.declared.tables.Tables.{Tables}
+use Rattle.automaton.specs.declared.tables.Part.{Part}
 use Rattle.automaton.specs.Rows.{RowIs, row_at}
-use Rattle.automaton.specs.Building.{behind, Added}
-use Rattle.automaton.specs.Tables.{labelled, Tables, ProgramRead}
+use Rattle.automaton.specs.Building.{behind, Empty, Added, PartAdded}
+use Rattle.automaton.specs.Tables.{labelled, Describe}
+use Rattle.automaton.specs.Reading.{ProgramRead}
 use Rattle.automaton.proofs.Behind.{behind_past}
 use Rattle.automaton.proofs.Leading.{row_put, row_kept}
 use Rattle.automaton.proofs.RowMeanings.{row_alike}
@@ -36,40 +40,37 @@ label_known (seq p q) k x h = side_known (steps p) (steps q) x (label p) (label 
 label_known (choice p q) k x h = side_known (steps p) (steps q) x (label p) (label q) h (label_known p k.0) (label_known q k.1)
 label_known (star p) k x h = label_known p k x h
 
-module _ (p : Program) (old mid new : Automaton) (row : Row) (n : old.places ≡ 0) (none : (s : ℕ) → s < 8 → get_or old.labelled s 0 ≡ 0) (k : Known p) (A : Added p old mid row) (l : length old.rows ≡ 13)
+module _ (p : Program) (old mid new : Tables) (row : Row) (z : Empty old) (k : Known p) (A : Added p old mid row)
     (places_is : new.places ≡ mid.places) (rows_is : new.rows ≡ set mid.rows mid.places row) (labelled_is : new.labelled ≡ mid.labelled) where
   all_places : mid.places ≡ steps p
-  all_places = omega (arith, A.places_are)
+  all_places = omega (arith, z.no_places, A.places_are)
 
   at_row : (x : ℕ) → row_at new.rows x ≡ row_at (set mid.rows mid.places row) x
   at_row x = ap (λ rows. row_at rows x) rows_is
 
   beginning_row : RowIs (ends_of p (from_bit (steps p) (steps p))) (next_of p (from_bit (steps p) (steps p))) (row_at new.rows (steps p))
   beginning_row =
-      let e : row_at new.rows (steps p) ≡ row = at_row (steps p) ∙ ap (row_at (set mid.rows mid.places row)) (sym all_places) ∙ row_put mid.rows mid.places row (omega (arith, mid.few, A.as_many_rows)) in
-      rw (at_beginning (steps p), e) (row_alike row (λ a. refl) (λ a y. behind_none_before old.places y (first p a) n) A.row_is)
+      let e : row_at new.rows (steps p) ≡ row = at_row (steps p) ∙ ap (row_at (set mid.rows mid.places row)) (sym all_places) ∙ row_put mid.rows mid.places row (omega (arith, mid.few, A.as_many_rows, z.as_many_rows)) in
+      rw (at_beginning (steps p), e) (row_alike row (λ a. refl) (λ a y. behind_none_before old.places y (first p a) z.no_places) A.row_is)
 
   place_row : (x : ℕ) → x < steps p → RowIs (ends_of p (from_bit (steps p) x)) (next_of p (from_bit (steps p) x)) (row_at new.rows x)
   place_row x h =
-      let z : old.places + x ≡ x = omega arith in
-      let e : row_at new.rows x ≡ row_at mid.rows (old.places + x) = at_row x ∙ row_kept mid.rows mid.places x row (λ j. omega (arith, all_places)) ∙ ap (row_at mid.rows) (sym z) in
-      rw (at_place (steps p) x h, e) (row_alike (row_at mid.rows (old.places + x)) (λ a. refl) (λ a y. behind_none_before old.places y (follow p x a) n) (A.rows_are x h))
+      let o : old.places + x ≡ x = omega (arith, z.no_places) in
+      let e : row_at new.rows x ≡ row_at mid.rows (old.places + x) = at_row x ∙ row_kept mid.rows mid.places x row (λ j. omega (arith, all_places)) ∙ ap (row_at mid.rows) (sym o) in
+      rw (at_place (steps p) x h, e) (row_alike (row_at mid.rows (old.places + x)) (λ a. refl) (λ a y. behind_none_before old.places y (follow p x a) z.no_places) (A.rows_are x h))
 
-  program_tables : Tables new (automaton_of p)
+  program_tables : Describe new (automaton_of p)
   program_tables = record {
     places_are = places_is ∙ all_places;
     rows_are = λ x h. ⊎_elim (λ e. rw e beginning_row) (λ e. place_row x (omega arith)) (cases_eq x (steps p));
-    labelled_are = λ s h y. ap (λ hs. bit y (get_or hs s 0)) labelled_is ∙ A.labelled_are s h y ∙ rw (none s h, bit_zero y) (behind_none_before old.places y (labelled (automaton_of p) s) n);
+    labelled_are = λ s h y. ap (λ hs. bit y (get_or hs s 0)) labelled_is ∙ A.labelled_are s h y ∙ rw (z.none_labelled s h, bit_zero y) (behind_none_before old.places y (labelled (automaton_of p) s) z.no_places);
     labels_known = label_known p k;
   }
 
 -- What was read, of the words that were read.
-pub program_read : (ws rest : List ℕ) (old mid new : Automaton) (row : Row) → old.places ≡ 0 → ((s : ℕ) → s < 8 → get_or old.labelled s 0 ≡ 0) → length old.rows ≡ 13 → new.places ≡ mid.places → new.rows ≡ set mid.rows mid.places row → new.labelled ≡ mid.labelled → ProgramAs (λ p. Added p old mid row) 64 12 ws rest → ProgramRead ws new (length rest)
-program_read ws rest old mid new row n none l e f g r = record {
-  program = r.0;
-  rest = rest;
-  are = r.1;
-  left_is = refl;
-  in_range = r.2;
-  tables = program_tables r.0 old mid new row n none (r.2 known) r.3 l e f g;
-}
+module _ (ws rest : List ℕ) (old mid new : Tables) (part : Part) (z : Empty old) (places_is : new.places ≡ mid.places) (rows_is : new.rows ≡ set mid.rows mid.places part.row) (labelled_is : new.labelled ≡ mid.labelled) (r : ProgramAs (λ p. PartAdded old p mid part) 64 (12 - old.places) ws rest) where
+  pub program_described : (p : Program) × (ws ≡ words p ++ rest) × InRange p × Describe new (automaton_of p)
+  program_described = (r.0, r.1, rw z.no_places at r.2, program_tables r.0 old mid new part.row z (r.2 known) r.3.1 places_is rows_is labelled_is)
+
+pub program_read : (ws rest : List ℕ) (m : Automaton) → ((p : Program) × (ws ≡ words p ++ rest) × InRange p × Describe m.tables (automaton_of p)) → ProgramRead ws m rest
+program_read ws rest m r = record { program = r.0; are = r.1; in_range = r.2; tables = r.3 }

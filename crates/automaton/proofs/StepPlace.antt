@@ -14,7 +14,7 @@ use Rattle.kat.proofs.Sides as sides
 use Rattle.kat.proofs.BitLaws.{bit_zero, bit_power}
 use Rattle.kat.proofs.BitOperations.{bit_of_or}
 use Rattle.automaton.specs.declared.rows.Row.{Row}
-use Rattle.automaton.specs.declared.automata.Automaton.{Automaton}
+use Rattle.automaton.specs.declared.tables.Tables.{Tables}
 use Rattle.automaton.specs.Rows.{PlacesAre, RowIs, Ending, Starting, row_at}
 use Rattle.automaton.specs.Tables.{labelled}
 use Rattle.automaton.specs.Building.{behind, Added}
@@ -38,7 +38,7 @@ labelled_behind n k s y = by y (where_is n y)
     by y (before h) = behind_before n y (labelled (automaton_of (step k)) s) h ∙ ap (λ b. b && eqb k s) (sym (ne_eqb y n (λ e. omega arith)))
     by y (sides.behind z) = let e : ltb z 1 ≡ eqb (n + z) n = grind (arith, nat_tests) in behind_past n z (labelled (automaton_of (step k)) s) ∙ ap (λ b. b && eqb k s) e
 
-module _ (k : ℕ) (old new : Automaton) (end row : Row) (b : old.places < 12) (r : length old.rows ≡ 13) (l : length old.labelled ≡ 8) (e : Ending 65535 end) (t : Starting old.places row)
+module _ (k : ℕ) (old new : Tables) (end row : Row) (b : old.places < 12) (r : length old.rows ≡ 13) (l : length old.labelled ≡ 8) (e : Ending 65535 end) (t : Starting old.places row)
     (places_is : new.places ≡ old.places + 1) (rows_is : new.rows ≡ set old.rows old.places end)
     (labelled_is : new.labelled ≡ set old.labelled k (bit_or (get_or old.labelled k 0) (1 * 2 ^ old.places % 4294967296))) where
   -- the set of the new place alone

@@ -1,23 +1,22 @@
--- An automaton while it is built: places are added behind those that are there.
+-- Tables while they are built: places are added behind those that are there.
 --     behind      what f says of places, where n others stand before them
 --     Added       from old to new, the places of the program p were added, and the row is what may come at its beginning
---     StepAdded   the same of a step
---     PartRead    the words ws begin with a program that there is room for; its places were added, and the rest follows it
+--     PartAdded   the same of a part, which says too where its places begin
 --     LedOn       from old to new, the next follows the rows of the places from one to before another
-use Rattle.std.specs.Prelude.{◌≡◌, ℕ, ◌+◌, ◌-◌, ◌<◌, ◌≤◌, Bool, false, ◌||◌, ◌⊎◌, List, length, slice_index}
-use Rattle.kat.specs.Programs.{Program, step, steps, step_count, max_steps}
+use Rattle.std.specs.Prelude.{◌≡◌, ℕ, ◌+◌, ◌<◌, ◌≤◌, Bool, false, ◌||◌, ◌⊎◌, length, slice_index}
+use Rattle.kat.specs.Programs.{Program, steps, step_count, max_steps}
 use Rattle.kat.specs.Bits.{bit}
 use Rattle.kat.specs.Places.{side, nullable, first, last, follow, automaton_of}
-use Rattle.reader.specs.Parts.{ProgramAs}
 use Rattle.automaton.specs.declared.rows.Row.{Row}
-use Rattle.automaton.specs.declared.automata.Automaton.{Automaton}
+use Rattle.automaton.specs.declared.tables.Tables.{Tables}
+use Rattle.automaton.specs.declared.tables.Part.{Part}
 use Rattle.automaton.specs.Rows.{PlacesAre, RowIs, Then, row_at}
 use Rattle.automaton.specs.Tables.{labelled}
 
 abbrev pub behind : ℕ → (ℕ → Bool) → ℕ → Bool
 behind n f y = side n y (λ v. false) f
 
-pub record Added (p : Program) (old new : Automaton) (row : Row) : Type 0 where
+pub record Added (p : Program) (old new : Tables) (row : Row) : Type 0 where
   pub places_are : new.places ≡ old.places + steps p
   pub as_many_rows : length new.rows ≡ length old.rows
   pub row_is : RowIs (nullable p) (λ a. behind old.places (first p a)) row
@@ -25,13 +24,17 @@ pub record Added (p : Program) (old new : Automaton) (row : Row) : Type 0 where
   pub rows_kept : (i : ℕ) → i < old.places → row_at new.rows i ≡ row_at old.rows i
   pub labelled_are : (s : ℕ) → s < step_count → PlacesAre (λ y. bit y (slice_index old.labelled s) || behind old.places (labelled (automaton_of p) s) y) (slice_index new.labelled s)
 
-abbrev pub StepAdded : ℕ → Automaton → Automaton → Row → Type 0
-StepAdded n old new row = Added (step n) old new row
+-- Tables without places.
+pub record Empty (m : Tables) : Type 0 where
+  pub no_places : m.places ≡ 0
+  pub as_many_rows : length m.rows ≡ max_steps + 1
+  pub none_labelled : (s : ℕ) → s < step_count → slice_index m.labelled s ≡ 0
 
-abbrev pub PartRead : ℕ → List ℕ → Automaton → Automaton → Row → List ℕ → Type 0
-PartRead d ws old new row rest = ProgramAs (λ p. Added p old new row) d (max_steps - old.places) ws rest
+-- the part's places are those that were added
+abbrev pub PartAdded : Tables → Program → Tables → Part → Type 0
+PartAdded old p new part = (part.from.0 ≡ old.places) × Added p old new part.row
 
-pub record LedOn (from to : ℕ) (old : Automaton) (next : Row) (new : Automaton) : Type 0 where
+pub record LedOn (from to : ℕ) (old : Tables) (next : Row) (new : Tables) : Type 0 where
   pub places_kept : new.places ≡ old.places
   pub as_many_rows : length new.rows ≡ length old.rows
   pub labelled_kept : new.labelled ≡ old.labelled

@@ -2,5 +2,6 @@
 pub mod Atoms
 pub mod Rows
 pub mod Tables
+pub mod Reading
 pub mod Sets
 pub mod Building

@@ -1,9 +1,7 @@
 // Atoms: which tests hold, as a number with a bit for each test. Sets of atoms have a bit for each atom.
-ghost use Rattle.std.specs.Result.{MatchResult};
-ghost use Rattle.reader.specs.Parts.{TestAs, TestFault};
 ghost use Rattle.automaton.specs.Atoms.{AtomsOf};
 
-use reader::{Fault, TESTS, TestHead, test_head_of};
+use reader::{TESTS, TestValue};
 
 // How many atoms there are.
 pub const ATOMS: usize = 1 << TESTS;
@@ -14,28 +12,36 @@ pub(crate) const ALL: u32 = 0xffff;
 // The atoms at which each test holds.
 const HOLDS: [u32; TESTS as usize] = [0xaaaa, 0xcccc, 0xf0f0, 0xff00];
 
-// The atoms at which the test holds that the words begin with, and what follows it, where there is room for so many levels.
-pub(crate) fn atoms_of(words: &[u32], depth: u32) -> Result<(u32, &[u32]), Fault>
-    ensures { MatchResult result (λ x. TestAs (AtomsOf x.0) depth words.now x.1.now) (TestFault depth words.now) }
-{
-    let (head, rest) = test_head_of(words, depth)?;
-    match head {
-        TestHead::Always => Ok((ALL, rest)),
-        TestHead::Never => Ok((0, rest)),
-        TestHead::Test(n) => Ok((HOLDS[n as usize], rest)),
-        TestHead::Both => {
-            let (one, second) = atoms_of(rest, depth - 1)?;
-            let (other, rest) = atoms_of(second, depth - 1)?;
-            Ok((one & other, rest))
-        }
-        TestHead::Any => {
-            let (one, second) = atoms_of(rest, depth - 1)?;
-            let (other, rest) = atoms_of(second, depth - 1)?;
-            Ok((one | other, rest))
-        }
-        TestHead::Opposite => {
-            let (atoms, rest) = atoms_of(rest, depth - 1)?;
-            Ok((atoms ^ ALL, rest))
-        }
+// The atoms at which a test holds.
+#[derive(Drop)]
+pub(crate) struct Atoms(pub u32);
+
+impl TestValue for Atoms {
+    ghost made_of = { λ m t. AtomsOf m.0 t };
+
+    #[tactic(auto, using(crate::proofs::Masks::always_atoms))]
+    fn always() -> Atoms {
+        Atoms(ALL)
+    }
+
+    #[tactic(auto, using(crate::proofs::Masks::never_atoms))]
+    fn never() -> Atoms {
+        Atoms(0)
+    }
+
+    fn test(n: u32) -> Atoms {
+        Atoms(HOLDS[n as usize])
+    }
+
+    fn both(self, other: Atoms) -> Atoms {
+        Atoms(self.0 & other.0)
+    }
+
+    fn any(self, other: Atoms) -> Atoms {
+        Atoms(self.0 | other.0)
+    }
+
+    fn opposite(self) -> Atoms {
+        Atoms(self.0 ^ ALL)
     }
 }

@@ -3,9 +3,11 @@
 
 mod atoms;
 mod automata;
+mod building;
 mod read;
 mod rows;
 mod sets;
+mod tables;
 
 pub use atoms::ATOMS;
 pub use automata::Automaton;

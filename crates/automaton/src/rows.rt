@@ -4,7 +4,7 @@ ghost use Rattle.kat.specs.Programs.{max_steps};
 ghost use Rattle.automaton.specs.Rows.{Ending, Joined, Led, Or, OrNothing, Starting, Then};
 
 use crate::atoms::{ALL, ATOMS};
-use crate::automata::Place;
+use crate::tables::Place;
 
 // The atoms at which the program may end, as a bit for each, and at each atom the places that may come next, likewise.
 #[derive(Clone, Copy)]
@@ -71,9 +71,9 @@ fn joined(one: &[u32; ATOMS], other: &[u32; ATOMS], atoms: u32) -> [u32; ATOMS]
     ensures { Joined one.now other.now atoms result }
 {
     let mut all = *one;
-    for atom in 0..ATOMS {
-        if (atoms >> (atom as u32)) & 1 == 1 {
-            all[atom] |= other[atom];
+    for (atom, places) in all.iter_mut().enumerate() {
+        if (atoms >> atom) & 1 == 1 {
+            *places |= other[atom];
         }
     }
     all

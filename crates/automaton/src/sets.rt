@@ -11,7 +11,7 @@ impl Automaton {
     pub fn beginning(&self) -> u32
         ensures { Begins self.now result }
     {
-        1u32 << self.places
+        1u32 << self.tables.places
     }
 
     // What may come next from somewhere in the set.
@@ -19,9 +19,10 @@ impl Automaton {
         ensures { RowFrom self.now set result }
     {
         let mut row = Row::ending(0);
-        for bit in 0..self.places + 1 {
+        let places = self.tables.places as usize;
+        for (bit, next) in self.tables.rows[..=places].iter().enumerate() {
             if (set >> bit) & 1 == 1 {
-                row = row.or(&self.rows[bit as usize]);
+                row = row.or(next);
             }
         }
         row
@@ -42,6 +43,6 @@ impl Automaton {
         if step.0 >= STEPS {
             return 0;
         }
-        self.row_of(set).next[atom as usize % ATOMS] & self.labelled[step.0 as usize]
+        self.row_of(set).next[atom as usize % ATOMS] & self.tables.labelled[step.0 as usize]
     }
 }

@@ -60,21 +60,19 @@ fn steps(heap: Global, n: u32) -> Result<Vec<u32>, AllocError> {
 
 // The automaton of a program that is all the words.
 fn automaton_of(rt: &impl Abort, words: &[u32]) -> Result<Automaton, Fail> {
-    let Ok(read) = Automaton::read(words) else {
+    let Ok((automaton, rest)) = Automaton::read(words) else {
         return Err(Fail::new("no program"));
     };
-    let (automaton, left) = read;
-    assert_eq!(rt; left, 0);
+    assert_eq!(rt; rest.len(), 0);
     Ok(automaton)
 }
 
 fn row_is(rt: &impl Abort, row: Row, ends: u32, next: &[u32; ATOMS]) {
     assert_eq!(rt; row.ends, ends);
-    for atom in 0..ATOMS {
-        assert_eq!(rt; row.next[atom], next[atom]);
-    }
+    assert_eq!(rt; row.next, *next);
 }
 
+// A set is passed by value: the checker does not cover a borrow of an element where the struct has a ghost field.
 fn set_is(rt: &impl Abort, set: u32, places: u32) {
     assert_eq!(rt; set, places);
 }
@@ -88,8 +86,8 @@ fn size(rt: HostRuntime) {
 fn guards(rt: HostRuntime) -> Result<(), Fail> {
     for (words, atoms) in GUARDS {
         let automaton = automaton_of(&rt, words)?;
-        assert_eq!(rt; automaton.places, 0);
-        row_is(&rt, automaton.rows[0], atoms, &NONE);
+        assert_eq!(rt; automaton.tables.places, 0);
+        row_is(&rt, automaton.tables.rows[0], atoms, &NONE);
     }
     Ok(())
 }
@@ -97,34 +95,34 @@ fn guards(rt: HostRuntime) -> Result<(), Fail> {
 #[test]
 fn a_loop(rt: HostRuntime) -> Result<(), Fail> {
     let automaton = automaton_of(&rt, LOOP)?;
-    assert_eq!(rt; automaton.places, 1);
-    row_is(&rt, automaton.rows[0], 0x5555, &WHERE_0);
-    row_is(&rt, automaton.rows[1], 0x5555, &WHERE_0);
-    set_is(&rt, automaton.labelled[1], 1);
-    set_is(&rt, automaton.labelled[0], 0);
+    assert_eq!(rt; automaton.tables.places, 1);
+    row_is(&rt, automaton.tables.rows[0], 0x5555, &WHERE_0);
+    row_is(&rt, automaton.tables.rows[1], 0x5555, &WHERE_0);
+    set_is(&rt, automaton.tables.labelled[1], 1);
+    set_is(&rt, automaton.tables.labelled[0], 0);
     Ok(())
 }
 
 #[test]
 fn a_loop_in_a_loop(rt: HostRuntime) -> Result<(), Fail> {
     let automaton = automaton_of(&rt, &nest(rt.alloc())?)?;
-    assert_eq!(rt; automaton.places, 2);
-    row_is(&rt, automaton.rows[0], 0x0505, &WHERE_2_OR_0);
-    row_is(&rt, automaton.rows[1], 0x0505, &WHERE_2_OR_0);
-    row_is(&rt, automaton.rows[2], 0x5555, &WHERE_0);
-    set_is(&rt, automaton.labelled[1], 1);
-    set_is(&rt, automaton.labelled[3], 2);
+    assert_eq!(rt; automaton.tables.places, 2);
+    row_is(&rt, automaton.tables.rows[0], 0x0505, &WHERE_2_OR_0);
+    row_is(&rt, automaton.tables.rows[1], 0x0505, &WHERE_2_OR_0);
+    row_is(&rt, automaton.tables.rows[2], 0x5555, &WHERE_0);
+    set_is(&rt, automaton.tables.labelled[1], 1);
+    set_is(&rt, automaton.tables.labelled[3], 2);
     Ok(())
 }
 
 #[test]
 fn never_and_a_step(rt: HostRuntime) -> Result<(), Fail> {
     let first = automaton_of(&rt, &[2, 0, 1, 1, 1])?;
-    row_is(&rt, first.rows[0], ALL, &NONE);
-    row_is(&rt, first.rows[1], 0, &NONE);
+    row_is(&rt, first.tables.rows[0], ALL, &NONE);
+    row_is(&rt, first.tables.rows[1], 0, &NONE);
     let last = automaton_of(&rt, &[2, 1, 1, 0, 1])?;
-    row_is(&rt, last.rows[0], 0, &NONE);
-    row_is(&rt, last.rows[1], 0, &FIRST);
+    row_is(&rt, last.tables.rows[0], 0, &NONE);
+    row_is(&rt, last.tables.rows[1], 0, &FIRST);
     Ok(())
 }
 
@@ -132,24 +130,15 @@ fn never_and_a_step(rt: HostRuntime) -> Result<(), Fail> {
 #[test]
 fn twelve_steps(rt: HostRuntime) -> Result<(), Fail> {
     let automaton = automaton_of(&rt, &steps(rt.alloc(), 12)?)?;
-    assert_eq!(rt; automaton.places, 12);
-    for place in 0..11usize {
-        row_is(
-            &rt,
-            automaton.rows[place],
-            0,
-            &[2u32 << (place as u32); ATOMS],
-        );
+    assert_eq!(rt; automaton.tables.places, 12);
+    for (place, row) in automaton.tables.rows[..11].iter().enumerate() {
+        row_is(&rt, *row, 0, &[2u32 << place; ATOMS]);
     }
-    row_is(&rt, automaton.rows[11], ALL, &FIRST);
-    row_is(&rt, automaton.rows[12], ALL, &FIRST);
-    for step in 0..8usize {
-        let once = 1u32 << (step as u32);
-        set_is(
-            &rt,
-            automaton.labelled[step],
-            if step < 4 { once | once << 8 } else { once },
-        );
+    row_is(&rt, automaton.tables.rows[11], ALL, &FIRST);
+    row_is(&rt, automaton.tables.rows[12], ALL, &FIRST);
+    for (step, set) in automaton.tables.labelled.iter().enumerate() {
+        let once = 1u32 << step;
+        set_is(&rt, *set, if step < 4 { once | once << 8 } else { once });
     }
     Ok(())
 }
@@ -158,14 +147,14 @@ fn twelve_steps(rt: HostRuntime) -> Result<(), Fail> {
 #[test]
 fn either(rt: HostRuntime) -> Result<(), Fail> {
     let automaton = automaton_of(&rt, &[3, 1, 6, 1, 6])?;
-    row_is(&rt, automaton.rows[0], ALL, &NONE);
-    row_is(&rt, automaton.rows[1], ALL, &NONE);
-    row_is(&rt, automaton.rows[2], 0, &[3; ATOMS]);
-    set_is(&rt, automaton.labelled[6], 3);
+    row_is(&rt, automaton.tables.rows[0], ALL, &NONE);
+    row_is(&rt, automaton.tables.rows[1], ALL, &NONE);
+    row_is(&rt, automaton.tables.rows[2], 0, &[3; ATOMS]);
+    set_is(&rt, automaton.tables.labelled[6], 3);
     // Again and again: past each both may come, and it may end.
     let again = automaton_of(&rt, &[4, 3, 1, 0, 1, 1])?;
-    for row in 0..3usize {
-        row_is(&rt, again.rows[row], ALL, &[3; ATOMS]);
+    for row in &again.tables.rows[..3] {
+        row_is(&rt, *row, ALL, &[3; ATOMS]);
     }
     Ok(())
 }
@@ -174,9 +163,9 @@ fn either(rt: HostRuntime) -> Result<(), Fail> {
 #[test]
 fn a_part_that_may_do_nothing(rt: HostRuntime) -> Result<(), Fail> {
     let automaton = automaton_of(&rt, &[2, 4, 1, 0, 1, 1])?;
-    row_is(&rt, automaton.rows[0], 0, &[3; ATOMS]);
-    row_is(&rt, automaton.rows[1], ALL, &NONE);
-    row_is(&rt, automaton.rows[2], 0, &[3; ATOMS]);
+    row_is(&rt, automaton.tables.rows[0], 0, &[3; ATOMS]);
+    row_is(&rt, automaton.tables.rows[1], ALL, &NONE);
+    row_is(&rt, automaton.tables.rows[2], 0, &[3; ATOMS]);
     Ok(())
 }
 
@@ -206,12 +195,11 @@ fn sets_of_places(rt: HostRuntime) -> Result<(), Fail> {
 
 #[test]
 fn words_behind_and_faults(rt: HostRuntime) -> Result<(), Fail> {
-    let Ok(read) = Automaton::read(&[1, 7, 9, 9, 9]) else {
+    let Ok((automaton, rest)) = Automaton::read(&[1, 7, 9, 9, 9]) else {
         return Err(Fail::new("no program"));
     };
-    let (automaton, left) = read;
-    assert_eq!(rt; automaton.places, 1);
-    assert_eq!(rt; left, 3);
+    assert_eq!(rt; automaton.tables.places, 1);
+    assert_eq!(rt; rest.len(), 3);
     let Err(fault) = Automaton::read(&[2, 1, 0, 1, 8, 0]) else {
         return Err(Fail::new("a program"));
     };

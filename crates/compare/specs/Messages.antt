@@ -4,7 +4,8 @@
 --     failure_text   what ended the program early
 use Rattle.std.specs.Prelude.{ℕ, List, ◌∷◌, ◌++◌, Option, Some, None, codes, string_bytes}
 use Rattle.compare.specs.declared.Failure.{Failure}
-use Rattle.compare.specs.declared.Failure.TheVariants.{Misused, Arguments, Input, Output, Memory}
+use Rattle.compare.specs.declared.Failure.TheVariants.{Misused, Arguments, Output, Lines}
+use Rattle.compare.specs.declared.filter.Trouble.TheVariants as trouble
 use Rattle.compare.specs.declared.options.Misuse.{Misuse}
 use Rattle.compare.specs.declared.options.Misuse.TheVariants.{Nothing, Unknown, TooMany}
 use Rattle.compare.specs.declared.options.Source.{Source}
@@ -22,6 +23,7 @@ misuse_text (TooMany more) = codes "one argument too many: " ++ string_bytes mor
 abbrev pub failure_text : Failure → Option (List ℕ)
 failure_text (Misused misuse) = Some (misuse_text misuse ++ 10 ∷ codes "Try 'compare --help'.")
 failure_text (Arguments e) = None
-failure_text (Input source e) = None
 failure_text (Output e) = None
-failure_text Memory = Some (codes "no memory")
+failure_text (Lines source (trouble.Input e)) = None
+failure_text (Lines source (trouble.Output e)) = None
+failure_text (Lines source trouble.Memory) = Some (codes "no memory")

@@ -1,7 +1,8 @@
 // What is answered to a line of words.
 ghost use Rattle.std.specs.Prelude.{◌≡◌, ℕ, List, [], ◌∷◌, ◌++◌, Some};
 ghost use Rattle.lines.specs.Scanning.{HasRead};
-ghost use Rattle.compare.specs.Answering.{AnswerTo, Answered, LineAnswered, answer_text, why_of_stop, why_text};
+ghost use Rattle.compare.specs.declared.answers.Why.TheVariants as why;
+ghost use Rattle.compare.specs.Answering.{AnswerTo, Answered, LineAnswered, why_of_stop, why_text};
 
 use lines::{Fault, Line, Stop};
 use reader::{MAX_WORDS, Reason, Refusal, read_pair};
@@ -22,45 +23,46 @@ pub enum Why {
     Refused(Refusal),
 }
 
-#[derive(Clone, Copy)]
-pub enum Answer {
-    TwoPrograms,
-    NoPrograms(Why),
+// Two programs, or why there are none.
+pub type Answer = Result<(), Why>;
+
+impl From<Refusal> for Why {
+    ghost from_gives = { λ r w. w ≡ why.Refused r };
+
+    fn from(refusal: Refusal) -> Why {
+        Why::Refused(refusal)
+    }
+}
+
+impl From<Stop> for Why {
+    ghost from_gives = { λ s w. w ≡ why_of_stop s.fault s.column };
+
+    fn from(stop: Stop) -> Why {
+        match stop.fault {
+            Fault::NotNumber => Why::NotNumber(stop.column),
+            Fault::TooLarge => Why::TooLarge(stop.column),
+            Fault::TooMany => Why::Refused(TOO_LONG),
+        }
+    }
 }
 
 // The answer to words.
 pub fn answer_words(words: &[u32]) -> Answer
     ensures { Answered words.now result }
 {
-    let Err(refusal) = read_pair(words) else {
-        return Answer::TwoPrograms;
-    };
     if words.is_empty() {
-        return Answer::NoPrograms(Why::Empty);
+        return Err(Why::Empty);
     }
-    Answer::NoPrograms(Why::Refused(refusal))
-}
-
-// Why there are no programs in a line where reading stopped.
-fn stop_reason(stop: Stop) -> Why
-    ensures { result ≡ why_of_stop stop.fault stop.column }
-{
-    match stop.fault {
-        Fault::NotNumber => Why::NotNumber(stop.column),
-        Fault::TooLarge => Why::TooLarge(stop.column),
-        Fault::TooMany => Why::Refused(TOO_LONG),
-    }
+    read_pair(words)?;
+    Ok(())
 }
 
 // The answer to a line that was read to its end, the newline included.
-pub fn answer_line(line: &Line) -> Answer
+pub fn answer_line(line: &Line<MAX_WORDS>) -> Answer
     ensures reason { LineAnswered line.now result }
-    ensures answer { (bs : List ℕ) → HasRead (bs ++ 10 ∷ []) line.now → AnswerTo bs result }
+    ensures answer { (bs : List ℕ) → HasRead MAX_WORDS (bs ++ 10 ∷ []) line.now → AnswerTo bs result }
 {
-    match line.numbers() {
-        Ok(words) => answer_words(words),
-        Err(stop) => Answer::NoPrograms(stop_reason(stop)),
-    }
+    answer_words(line.numbers()?)
 }
 
 impl fmt::Display for Why {
@@ -72,17 +74,6 @@ impl fmt::Display for Why {
             Why::NotNumber(column) => write!(f, "not a number, at column {column}"),
             Why::TooLarge(column) => write!(f, "a number over 32 bits, at column {column}"),
             Why::Refused(refusal) => write!(f, "{refusal}"),
-        }
-    }
-}
-
-impl fmt::Display for Answer {
-    ghost output = { λ a. Some (answer_text a) };
-
-    fn fmt<W: fmt::Write>(&self, f: &mut fmt::Formatter<W>) -> fmt::Result {
-        match *self {
-            Answer::TwoPrograms => write!(f, "two programs"),
-            Answer::NoPrograms(why) => write!(f, "no programs: {why}"),
         }
     }
 }

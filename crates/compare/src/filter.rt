@@ -1,9 +1,12 @@
 // Lines in, answers out.
-ghost use Rattle.std.specs.Prelude.{◌≡◌};
+ghost use Rattle.std.specs.Prelude.{◌≡◌, OnOk, [], ◌∷◌, ◌++◌};
+ghost use Rattle.std.specs.Io.KnownBytes.{Appends};
 ghost use Rattle.compare.specs.declared.filter.Trouble.TheVariants.{Memory};
+ghost use Rattle.compare.specs.Answering.{answer_text};
 
-use crate::answers::answer_line;
+use crate::answers::{Answer, answer_line};
 use lines::Line;
+use reader::MAX_WORDS;
 use std::alloc::{AllocError, Global};
 use std::io;
 use std::io::{BufRead, Write};
@@ -24,37 +27,39 @@ impl From<AllocError> for Trouble {
     }
 }
 
-// What a write came to.
-fn written(res: io::Result<()>) -> Result<(), Trouble> {
-    match res {
-        Ok(()) => Ok(()),
-        Err(e) => Err(Trouble::Output(e)),
+// Writes an answer on a line of its own.
+fn write_answer<W: Write>(answer: Answer, out: &mut W) -> io::Result<()>
+    ensures { OnOk result (Appends (W.contents out.old) (W.contents out.new) (answer_text answer ++ 10 ∷ [])) }
+{
+    match answer {
+        Ok(()) => writeln!(out, "two programs"),
+        Err(why) => writeln!(out, "no programs: {why}"),
     }
 }
 
 // Reads the next bytes, and answers each line that ends in them.
-fn answer_bytes<W: Write>(bytes: &[u8], line: &mut Line, out: &mut W) -> Result<(), Trouble> {
+fn answer_bytes<W: Write>(
+    bytes: &[u8],
+    line: &mut Line<MAX_WORDS>,
+    out: &mut W,
+) -> Result<(), Trouble> {
     for byte in bytes {
         line.push(*byte)?;
         if *byte == b'\n' {
-            let answer = answer_line(line);
-            written(writeln!(out, "{answer}"))?;
+            write_answer(answer_line(line), out).map_err(Trouble::Output)?;
             line.clear();
         }
     }
-    written(out.flush())
+    out.flush().map_err(Trouble::Output)
 }
 
 // Goes on with as much of the input as there is at hand, and says how much that was: nothing at its end.
 fn answer_some<R: BufRead, W: Write>(
     input: &mut R,
-    line: &mut Line,
+    line: &mut Line<MAX_WORDS>,
     out: &mut W,
 ) -> Result<usize, Trouble> {
-    let bytes = match input.fill_buf() {
-        Ok(bytes) => bytes,
-        Err(e) => return Err(Trouble::Input(e)),
-    };
+    let bytes = input.fill_buf().map_err(Trouble::Input)?;
     let n = bytes.len();
     answer_bytes(bytes, line, out)?;
     input.consume(n);
@@ -69,6 +74,7 @@ pub fn answer_lines<R: BufRead, W: Write>(
     heap: Global,
 ) -> Result<(), Trouble> {
     let mut line = Line::new(heap);
+    // counted, since each loop is proved to end and nothing is known of how long the input is
     for _ in 0..u64::MAX {
         if answer_some(input, &mut line, out)? == 0 {
             break;

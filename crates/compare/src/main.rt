@@ -49,9 +49,8 @@ The status is 0 if every line was answered, and 1 otherwise.
 enum Failure {
     Misused(Misuse),
     Arguments(io::Error),
-    Input(Source, io::Error),
     Output(io::Error),
-    Memory,
+    Lines(Source, Trouble),
 }
 
 impl fmt::Display for Failure {
@@ -61,53 +60,48 @@ impl fmt::Display for Failure {
         match self {
             Failure::Misused(misuse) => write!(f, "{misuse}\nTry 'compare --help'."),
             Failure::Arguments(e) => write!(f, "the arguments: {e}"),
-            Failure::Input(source, e) => write!(f, "{source}: {e}"),
-            Failure::Output(e) => write!(f, "standard output: {e}"),
-            Failure::Memory => write!(f, "no memory"),
+            Failure::Lines(source, Trouble::Input(e)) => write!(f, "{source}: {e}"),
+            Failure::Lines(_, Trouble::Output(e)) | Failure::Output(e) => {
+                write!(f, "standard output: {e}")
+            }
+            Failure::Lines(_, Trouble::Memory) => write!(f, "no memory"),
         }
     }
 }
 
 fn print(rt: &HostRuntime, text: &str) -> Result<(), Failure> {
-    match print!(rt; "{text}") {
-        Ok(()) => Ok(()),
-        Err(e) => Err(Failure::Output(e)),
-    }
+    print!(rt; "{text}").map_err(Failure::Output)
 }
 
-// Answers the lines of the input, which comes from this source.
-fn answer<R: Read + Drop>(rt: &HostRuntime, source: Source, input: R) -> Result<(), Failure> {
-    let mut input = BufReader::new(rt.alloc(), input).map_err(|_| Failure::Memory)?;
-    let mut out = BufWriter::new(rt.alloc(), rt.stdout()).map_err(|_| Failure::Memory)?;
-    match answer_lines(&mut input, &mut out, rt.alloc()) {
-        Ok(()) => Ok(()),
-        Err(Trouble::Input(e)) => Err(Failure::Input(source, e)),
-        Err(Trouble::Output(e)) => Err(Failure::Output(e)),
-        Err(Trouble::Memory) => Err(Failure::Memory),
-    }
+// Answers the lines of the input.
+fn answer<R: Read + Drop>(rt: &HostRuntime, input: R) -> Result<(), Trouble> {
+    let mut input = BufReader::new(rt.alloc(), input).map_err(|_| Trouble::Memory)?;
+    let mut out = BufWriter::new(rt.alloc(), rt.stdout()).map_err(|_| Trouble::Memory)?;
+    answer_lines(&mut input, &mut out, rt.alloc())
+}
+
+// Answers the lines of the file of this name.
+fn answer_file(rt: &HostRuntime, name: &str) -> Result<(), Trouble> {
+    let file = File::open(rt, name).map_err(Trouble::Input)?;
+    answer(rt, file)
 }
 
 // Answers the lines that come from this source.
 fn answer_source(rt: &HostRuntime, source: Source) -> Result<(), Failure> {
-    let Source::File(name) = &source else {
-        return answer(rt, source, rt.stdin());
+    let answered = match &source {
+        Source::Stdin => answer(rt, rt.stdin()),
+        Source::File(name) => answer_file(rt, name.as_str()),
     };
-    match File::open(rt, name.as_str()) {
-        Ok(file) => answer(rt, source, file),
-        Err(e) => Err(Failure::Input(source, e)),
-    }
+    answered.map_err(|trouble| Failure::Lines(source, trouble))
 }
 
+// Does what is asked for. Three commands that take different things: closures would be no plainer.
 fn run(rt: &HostRuntime) -> Result<(), Failure> {
-    let args = match env::args(rt) {
-        Ok(args) => args,
-        Err(e) => return Err(Failure::Arguments(e)),
-    };
-    match command_of(args) {
-        Err(misuse) => Err(Failure::Misused(misuse)),
-        Ok(Command::Help) => print(rt, HELP),
-        Ok(Command::Version) => print(rt, VERSION),
-        Ok(Command::Words(source)) => answer_source(rt, source),
+    let args = env::args(rt).map_err(Failure::Arguments)?;
+    match command_of(args).map_err(Failure::Misused)? {
+        Command::Help => print(rt, HELP),
+        Command::Version => print(rt, VERSION),
+        Command::Words(source) => answer_source(rt, source),
     }
 }
 

@@ -1,11 +1,12 @@
 // What the command line asks for.
 ghost use Rattle.std.specs.Prelude.{Some};
 ghost use Rattle.compare.specs.Messages.{misuse_text, source_text};
+ghost use Rattle.compare.specs.CommandLine.{NamedSource};
 
 use std::env::Args;
 use std::fmt;
 
-// Where the lines come from.
+// Where the lines come from. An `Option` of a name would have no text for standard input.
 #[derive(Drop)]
 pub enum Source {
     Stdin,
@@ -36,7 +37,10 @@ pub fn command_of(mut args: Args) -> Result<Command, Misuse> {
     let command = match option.as_str() {
         "--help" | "-h" => Command::Help,
         "--version" => Command::Version,
-        "--words" => Command::Words(source_of(args.next())?),
+        "--words" => Command::Words(match args.next() {
+            Some(name) => Source::try_from(name)?,
+            None => Source::Stdin,
+        }),
         _ => return Err(Misuse::Unknown(option)),
     };
     match args.next() {
@@ -46,16 +50,19 @@ pub fn command_of(mut args: Args) -> Result<Command, Misuse> {
 }
 
 // The source of this name. What else begins as an option does is not taken for a file.
-fn source_of(name: Option<String>) -> Result<Source, Misuse> {
-    let Some(name) = name else {
-        return Ok(Source::Stdin);
-    };
-    if name.as_str() == "-" {
-        Ok(Source::Stdin)
-    } else if name.as_str().starts_with('-') {
-        Err(Misuse::Unknown(name))
-    } else {
-        Ok(Source::File(name))
+impl TryFrom<String> for Source {
+    type Error = Misuse;
+
+    ghost try_from_gives = { NamedSource };
+
+    fn try_from(name: String) -> Result<Source, Misuse> {
+        if name.as_str() == "-" {
+            Ok(Source::Stdin)
+        } else if name.as_str().starts_with('-') {
+            Err(Misuse::Unknown(name))
+        } else {
+            Ok(Source::File(name))
+        }
     }
 }
 

@@ -2,6 +2,7 @@
 use crate::options::{Command, Misuse, Source, command_of};
 use std::test::Fail;
 
+// In words, since what is expected of a file would hold a `String`, and a constant can't.
 fn named(command: Result<Command, Misuse>) -> &'static str {
     match command {
         Ok(Command::Help) => "help",

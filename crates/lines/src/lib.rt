@@ -2,9 +2,10 @@
 #![tactic(auto)]
 
 ghost use Rattle.std.specs.Prelude.{◌≡◌, ℕ, List, [], ◌∷◌, ◌++◌, MatchResult, OnErr, ◌==◌};
-ghost use Rattle.lines.specs.Scanning.{Complete, Fresh, HasRead, LineRead, NeedsMemory, Pushed, Same, StoppedAt, effect, scan_of};
+ghost use Rattle.lines.specs.Scanning.{Complete, Fresh, HasRead, LineRead, NeedsMemory, Pushed, Same, StoppedAt, number_ended, state_after};
 
 use std::alloc::{AllocError, Global};
+use std::marker::Model;
 
 // Why a line is not one of numbers.
 #[derive(Clone, Copy, PartialEq, Eq, Debug)]
@@ -21,7 +22,8 @@ pub struct Stop {
     pub column: usize,
 }
 
-// Where reading stands: between numbers, in one that is worth so much, or where it stopped.
+// Where reading stands: between numbers, in one that is worth so much, or where it stopped. As a `Result` of an `Option`
+// it took a third more instructions for a byte.
 #[derive(Clone, Copy)]
 pub enum State {
     Gap,
@@ -29,39 +31,32 @@ pub enum State {
     Stopped(Fault),
 }
 
-// What a byte makes of where reading stands: it goes on, or a number has ended.
-#[derive(Clone, Copy)]
-enum Effect {
-    Goes(State),
-    Ends(u32),
-}
-
-// What the byte makes of the state.
-fn effect_of(state: State, byte: u8) -> Effect
-    ensures { result ≡ effect state byte }
-{
-    match (state, byte) {
-        (State::Stopped(_), _) => Effect::Goes(state),
-        (State::Gap, b' ' | b'\t' | b'\r' | b'\n') => Effect::Goes(State::Gap),
-        (State::Number(n), b' ' | b'\t' | b'\r' | b'\n') => Effect::Ends(n),
-        (State::Gap, b'0'..=b'9') => Effect::Goes(State::Number(u32::from(byte - b'0'))),
-        (State::Number(n), b'0'..=b'9') => {
-            let grown = u64::from(n) * 10 + u64::from(byte - b'0');
-            if grown > u64::from(u32::MAX) {
-                return Effect::Goes(State::Stopped(Fault::TooLarge));
+impl State {
+    // Where it stands after one byte more, and the number that has ended with it, if one has.
+    fn after(self, byte: u8) -> (State, Option<u32>)
+        ensures { result ≡ (state_after self byte, number_ended self byte) }
+    {
+        match (self, byte) {
+            (State::Stopped(_), _) => (self, None),
+            (State::Gap, b' ' | b'\t' | b'\r' | b'\n') => (State::Gap, None),
+            (State::Number(n), b' ' | b'\t' | b'\r' | b'\n') => (State::Gap, Some(n)),
+            (State::Gap, b'0'..=b'9') => (State::Number(u32::from(byte - b'0')), None),
+            (State::Number(n), b'0'..=b'9') => {
+                let grown = u64::from(n) * 10 + u64::from(byte - b'0');
+                let state = u32::try_from(grown).map_or(
+                    State::Stopped(Fault::TooLarge),
+                    State::Number,
+                );
+                (state, None)
             }
-            Effect::Goes(State::Number(grown as u32))
+            _ => (State::Stopped(Fault::NotNumber), None),
         }
-        _ => Effect::Goes(State::Stopped(Fault::NotNumber)),
     }
 }
 
-// A line keeps at most as many numbers as two programs may have words.
-pub const MAX_NUMBERS: usize = 4096;
-
-// The numbers of a line, as its bytes come.
+// The numbers of a line, at most so many, as its bytes come.
 #[derive(Drop)]
-pub struct Line {
+pub struct Line<const MOST: usize> {
     // the numbers that are complete
     numbers: Vec<u32>,
     state: State,
@@ -69,7 +64,16 @@ pub struct Line {
     column: usize,
 }
 
-impl Line {
+impl<const MOST: usize> Model for Line<MOST> {
+    ghost use Rattle.std.specs.Prelude.{vec_items, vec_capacity};
+    ghost use Rattle.lines.specs.Scanning.{Reading};
+
+    ghost Value = { Reading };
+
+    ghost view = { λ l. record { scan = record { numbers = vec_items l.numbers; state = l.state }; column = l.column; capacity = vec_capacity l.numbers } };
+}
+
+impl<const MOST: usize> Line<MOST> {
     // A line with no byte yet.
     pub fn new(heap: Global) -> Self
         ensures { Fresh result }
@@ -83,36 +87,37 @@ impl Line {
 
     // One byte more; where there is no memory for a number, nothing changes.
     pub fn push(&mut self, byte: u8) -> Result<(), AllocError>
-        ensures read { MatchResult result (λ _. Pushed self.old byte self.new) (λ _. Same self.old self.new) }
-        ensures no_memory { OnErr result (NeedsMemory self.old byte) }
+        ensures read { MatchResult result (λ _. Pushed MOST self.old byte self.new) (λ _. Same self.old self.new) }
+        ensures no_memory { OnErr result (NeedsMemory MOST self.old byte) }
     {
         let column = match self.state {
             State::Stopped(_) => self.column,
             _ => self.column.saturating_add(1),
         };
-        match effect_of(self.state, byte) {
-            Effect::Goes(state) => self.state = state,
-            Effect::Ends(n) if self.numbers.len() < MAX_NUMBERS => {
+        let (state, ended) = self.state.after(byte);
+        self.state = match ended {
+            None => state,
+            Some(n) if self.numbers.len() < MOST => {
                 self.numbers.push(n)?;
-                self.state = State::Gap;
+                state
             }
-            Effect::Ends(_) => self.state = State::Stopped(Fault::TooMany),
-        }
+            Some(_) => State::Stopped(Fault::TooMany),
+        };
         self.column = column;
         Ok(())
     }
 
     // The numbers that are complete, or where reading stopped. After a newline these are the numbers of the line before it.
     pub fn numbers(&self) -> Result<&[u32], Stop>
-        ensures value { MatchResult result (λ x. Complete (scan_of self.now) x.now) (StoppedAt self.now) }
-        ensures reads { (bs : List ℕ) → HasRead (bs ++ 10 ∷ []) self.now → LineRead bs result }
+        ensures value { MatchResult result (λ x. Complete self.now x.now) (StoppedAt self.now) }
+        ensures reads { (bs : List ℕ) → HasRead MOST (bs ++ 10 ∷ []) self.now → LineRead MOST bs result }
     {
         match self.state {
             State::Stopped(fault) => Err(Stop {
                 fault,
                 column: self.column,
             }),
-            State::Gap | State::Number(_) => Ok(self.numbers.as_slice()),
+            _ => Ok(&self.numbers),
         }
     }
 

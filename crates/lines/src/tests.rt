@@ -3,7 +3,9 @@ use crate::*;
 use std::process::Abort;
 use std::test::Fail;
 
-fn has(rt: &impl Abort, line: &Line, numbers: Result<&[u32], Stop>) {
+const MOST: usize = 4096;
+
+fn has(rt: &impl Abort, line: &Line<MOST>, numbers: Result<&[u32], Stop>) {
     assert_eq!(rt; line.numbers(), numbers);
 }
 
@@ -14,7 +16,7 @@ fn reads(
     text: &str,
     numbers: Result<&[u32], Stop>,
 ) -> Result<(), Fail> {
-    let mut line = Line::new(heap);
+    let mut line = Line::<MOST>::new(heap);
     for byte in text.bytes() {
         line.push(byte)?;
     }
@@ -54,7 +56,7 @@ fn lines_read(rt: HostRuntime) -> Result<(), Fail> {
 // A line of a megabyte, most of it blank, is read to its end.
 #[test]
 fn long_line(rt: HostRuntime) -> Result<(), Fail> {
-    let mut line = Line::new(rt.alloc());
+    let mut line = Line::<MOST>::new(rt.alloc());
     line.push(b'7')?;
     for _ in 0..1_000_000 {
         line.push(b' ')?;
@@ -67,8 +69,8 @@ fn long_line(rt: HostRuntime) -> Result<(), Fail> {
 
 #[test]
 fn too_many_numbers(rt: HostRuntime) -> Result<(), Fail> {
-    let mut line = Line::new(rt.alloc());
-    for _ in 0..MAX_NUMBERS {
+    let mut line = Line::<MOST>::new(rt.alloc());
+    for _ in 0..MOST {
         line.push(b'0')?;
         line.push(b' ')?;
     }

@@ -1,4 +1,5 @@
 -- What is met in a part of the words is met in the whole.
+pub mod HandedOn
 mod Frames
 mod Grammar
 mod TwoParts

@@ -80,14 +80,6 @@ test_begun d w ws tail rest Opposite e x = let y = x.0 in let z : w ≡ 5 = cc i
 test_refuted : (d w : ℕ) (ws tail : List ℕ) → ws ≡ w ∷ tail → ((rest : List ℕ) → TestBegun d w tail rest → ⊥) → NoTestHead d ws
 test_refuted d w ws tail e f h rest x = f rest (test_begun d w ws tail rest h e x)
 
-pub no_test_words : (d : ℕ) (ws : List ℕ) → ws ≡ [] → NoTestHead d ws
-no_test_words d ws e Always rest x = omega (arith, ap length e, ap length x.0)
-no_test_words d ws e Never rest x = omega (arith, ap length e, ap length x.0)
-no_test_words d ws e (Test n) rest x = omega (arith, ap length e, ap length x.0)
-no_test_words d ws e Both rest x = omega (arith, ap length e, ap length x.0)
-no_test_words d ws e Any rest x = omega (arith, ap length e, ap length x.0)
-no_test_words d ws e Opposite rest x = omega (arith, ap length e, ap length x.0)
-
 module _ (d : ℕ) (ws tail : List ℕ) where
   pub no_code_test : (w : ℕ) → 6 ≤ w → ws ≡ w ∷ tail → NoTestHead d ws
   no_code_test w l e = test_refuted d w ws tail e from

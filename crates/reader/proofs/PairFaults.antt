@@ -1,17 +1,20 @@
 -- Two programs, one after the other: the frames of the first and of the second, and what is true of words that are refused.
-use Rattle.std.proofs.Common.{◌≡◌, ℕ, ◌-◌, ◌<◌, ◌≤◌, List, [], ◌++◌, length, sym, refl, ap, ◌∙◌, append_assoc, append-nil, arith, length-append, length-drop, length-take}
+use Rattle.std.proofs.Common.{◌≡◌, ℕ, ◌+◌, ◌-◌, ◌<◌, ◌≤◌, List, [], ◌++◌, length, sym, refl, ap, ◌∙◌, append_assoc, append-nil, arith, length-append, length-drop, length-take, Ok, Err, Result, MatchResult}
 use lib.Seq.{take-append_seam, drop-append_seam}
-use Rattle.std.proofs.lemmas.List.{nil_from_length}
-use Rattle.kat.specs.Programs.{Program, always, guard, Limit, known, shallow, few, Keeps}
+use Rattle.std.specs.Result.{IsErrAnd}
+use Rattle.std.proofs.lemmas.Result.{err_from_is_err_and}
+use Rattle.kat.specs.Programs.{Program, steps, always, guard, Limit, known, shallow, few, Keeps}
 use Rattle.kat.specs.Words.{words, TwoPrograms}
 use Rattle.kat.proofs.UniqueReading.{one_program}
 use Rattle.reader.specs.declared.refusals.Reason.{Reason}
 use Rattle.reader.specs.declared.refusals.Reason.TheVariants.{TooLong, Ended, NoCode, OutOfRange, TooDeep, TooManySteps, LeftOver}
 use Rattle.reader.specs.declared.refusals.Fault.{Fault}
+use Rattle.reader.specs.declared.refusals.Refusal.{Refusal}
+use Rattle.reader.specs.declared.pairs.Pair.{Pair}
 use Rattle.reader.specs.Limits.{PairKeeps}
 use Rattle.reader.specs.Faults.{All, Met}
 use Rattle.reader.specs.Reading.{IsPair, pair_words, Told, Refused}
-use Rattle.reader.specs.Parts.{ProgramFault, ProgramIn, PairFault}
+use Rattle.reader.specs.Parts.{ProgramAs, ProgramFault, PairFault}
 use Rattle.reader.proofs.Frames.{Frame, fault_in}
 use Rattle.reader.proofs.Excluded.{met_excludes}
 
@@ -40,6 +43,10 @@ second_of_pair p h = record {
       (b.1, more, o.1, λ l x. x.1);
 }
 
+-- The words begin with a program in range, of whose room for steps so much is left.
+abbrev Read : List ℕ → List ℕ → ℕ → Type 0
+Read ws rest left = ProgramAs (λ p. steps p + left ≡ 12) 64 12 ws rest
+
 -- What is met inside a pair is told of it.
 told : (u v : List ℕ) (why : Reason) → Met pair_words PairKeeps u v why → Told u v why
 told u v TooLong m = absurd m
@@ -54,30 +61,15 @@ told u v LeftOver m = absurd m
 pub first_fails : (s : List ℕ) (f : Fault) → ProgramFault 64 12 s f → PairFault s f
 first_fails s f x = let m = fault_in first_of_pair s s f refl x in (m.0, m.1, m.2, m.3, told m.0 m.1 f.reason m.4)
 
-pub second_fails : (s second : List ℕ) (left : ℕ) (f : Fault) → ProgramIn 64 12 s second left → ProgramFault 64 12 second f → PairFault s f
+pub second_fails : (s second : List ℕ) (left : ℕ) (f : Fault) → Read s second left → ProgramFault 64 12 second f → PairFault s f
 second_fails s second left f r x =
     let m = fault_in (second_of_pair r.0 r.2) s second f r.1 x in
     (m.0, m.1, m.2, m.3, told m.0 m.1 f.reason m.4)
 
 -- and words behind both are left over.
-pub left_over : (s second rest : List ℕ) (left left' : ℕ) → ProgramIn 64 12 s second left → ProgramIn 64 12 second rest left' → 0 < length rest → PairFault s (record { reason = LeftOver; left = length rest })
+pub left_over : (s second rest : List ℕ) (left left' : ℕ) → Read s second left → Read second rest left' → 0 < length rest → PairFault s (record { reason = LeftOver; left = length rest })
 left_over s second rest left left' r q h =
     (words r.0 ++ words q.0, rest, cc (r.1, q.1, append_assoc (words r.0) (words q.0) rest), refl, (h, (r.0, q.0), refl, λ l. (r.2 l, q.2 l)))
-
--- A program that is read leaves no more words than there were.
-pub rest_shorter : (d k : ℕ) (ws rest : List ℕ) (left : ℕ) → ProgramIn d k ws rest left → length rest ≤ length ws
-rest_shorter d k ws rest left r = omega (arith, simp length-append at (ap length r.1))
-
-pub is_pair : (s second rest : List ℕ) (left left' : ℕ) → length s ≤ 4096 → ProgramIn 64 12 s second left → ProgramIn 64 12 second rest left' → length rest ≡ 0 → IsPair s (record { second = length s - length second; first_steps = 12 - left; second_steps = 12 - left' })
-is_pair s second rest left left' n r q z =
-    let e : rest ≡ [] = nil_from_length rest z in (
-      r.0,
-      q.0,
-      record { are = cc (r.1, q.1, e, append-nil (words q.0)); first = r.2; second = q.2; short = n },
-      omega (arith, simp length-append at (ap length r.1)),
-      omega (arith, r.3),
-      omega (arith, q.3),
-    )
 
 -- Words that two programs begin are not themselves two programs, unless nothing follows.
 pub nothing_follows : (p q p' q' : Program) (r : List ℕ) → (words p ++ words q) ++ r ≡ words p' ++ words q' → r ≡ []
@@ -101,9 +93,6 @@ not_two s u v LeftOver e n m p q t =
     let z : v ≡ [] = nothing_follows m.1.0 m.1.1 p q v (cc (e, m.2, t.are)) in
     omega (arith, m.0, ap length z)
 
-pub left_within : (s : List ℕ) (f : Fault) → PairFault s f → f.left ≤ length s
-left_within s f m = omega (arith, simp length-append at (ap length m.2), m.3)
-
 pub refused : (s : List ℕ) (f : Fault) → length s ≤ 4096 → PairFault s f → Refused s (record { reason = f.reason; at = length s - f.left })
 refused s f n m =
     let e : length s - f.left ≡ length m.0 = omega (arith, simp length-append at (ap length m.2), m.3) in
@@ -113,6 +102,11 @@ refused s f n m =
       short = λ _. n;
       told = rw (e, m.2, take-append_seam, drop-append_seam) m.4;
     }
+
+-- What is told of words that are not too long is the fault met in them, at its index.
+pub read_or_refused : (s : List ℕ) (r : Result Pair Fault) (r' : Result Pair Refusal) (P : Fault → Refusal → Type 0) → ((f : Fault) (q : Refusal) → P f q → q ≡ record { reason = f.reason; at = length s - f.left }) → length s ≤ 4096 → MatchResult r (IsPair s) (PairFault s) → MatchResult r (λ x. r' ≡ Ok x) (λ f. IsErrAnd r' (P f)) → MatchResult r' (IsPair s) (Refused s)
+read_or_refused s (Ok x) r' P at n h e = rw e h
+read_or_refused s (Err f) r' P at n h e = let p = err_from_is_err_and r' e in rw (p.1, at f p.0 p.2) (refused s f n h)
 
 pub too_long : (s : List ℕ) → 4096 < length s → Refused s (record { reason = TooLong; at = 4096 })
 too_long s h = record {

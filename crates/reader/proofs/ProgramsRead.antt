@@ -1,12 +1,11 @@
 -- What is read of a program, and what is met in it, from what was read of its parts.
-use Rattle.std.proofs.Common.{◌≡◌, ℕ, ◌+◌, ◌-◌, ◌<◌, ◌⊎◌, List, ◌∷◌, Ok, Err, Result, inl, inr, arith, MatchResult}
-use Rattle.kat.specs.Programs.{Test, Program, guard, step, seq, choice, star, steps, step_count, Limit, known, shallow, few, Keeps}
+use Rattle.std.proofs.Common.{◌≡◌, ℕ, ◌+◌, ◌-◌, ◌<◌, ◌⊎◌, List, ◌∷◌, inl, inr, arith}
+use Rattle.kat.specs.Programs.{Test, Program, guard, seq, choice, star, steps}
 use Rattle.reader.specs.declared.refusals.Fault.{Fault}
-use Rattle.reader.specs.declared.heads.Step as number
 use Rattle.reader.specs.declared.heads.Head.{Head}
-use Rattle.reader.specs.declared.heads.Head.TheVariants.{Guard, Step, Sequence, Choice, Star}
+use Rattle.reader.specs.declared.heads.Head.TheVariants.{Guard, Sequence, Choice, Star}
 use Rattle.reader.specs.Heads.{HeadIn}
-use Rattle.reader.specs.Parts.{ProgramAs, ProgramFault, ProgramIn, TestAs, TestFault}
+use Rattle.reader.specs.Parts.{ProgramAs, ProgramFault, TestAs, TestFault}
 use Rattle.reader.proofs.Frames.{fault_in}
 use Rattle.reader.proofs.TwoParts.{first_part_fault, second_part_fault, parts_read}
 use Rattle.reader.proofs.OnePart.{part_frame, wrapped}
@@ -28,14 +27,6 @@ module _ (d k : ℕ) (h : Head) (ws rest : List ℕ) (b : HeadIn d k ws h rest) 
 
   pub guard_read : h ≡ Guard → (more : List ℕ) (M : Test → Type 0) (O : Program → Type 0) → ((t : Test) → M t → O (guard t)) → TestAs M d rest more → ProgramAs O d k ws more
   guard_read o more M O made r = (guard r.0, cc (rw o at b.0, r.1), (λ l. guard_keeps d k l r.0 (r.2 l)), made r.0 r.3)
-
-  pub step_read : (n : number.Step) → h ≡ Step n → (O : Program → Type 0) → (n.0 < step_count → 0 < k → O (step n.0)) → ProgramAs O d k ws rest
-  step_read n o O made = let x = rw o at b in (step n.0, x.0, keeps, made x.1.0 x.1.1)
-    where
-      keeps : (l : Limit) → Keeps d k l (step n.0)
-      keeps known = let x = rw o at b in x.1.0
-      keeps shallow = omega arith
-      keeps few = let x = rw o at b in let p : 0 < k = x.1.1 in omega arith
 
   pub first_fault : (h ≡ Sequence) ⊎ (h ≡ Choice) → (f : Fault) → ProgramFault (d - 1) k rest f → ProgramFault d k ws f
   first_fault (inl o) = let x = sequence_head d k h ws rest o b in first_part_fault programs seqs d k ws rest x.0 x.1
@@ -64,22 +55,3 @@ module _ (d k : ℕ) (h : Head) (ws rest : List ℕ) (b : HeadIn d k ws h rest) 
 
     pub choice_read : h ≡ Choice → (more : List ℕ) (N O : Program → Type 0) → ((p q : Program) → M p → N q → O (choice p q)) → ProgramAs N (d - 1) k' second more → ProgramAs O d k ws more
     choice_read o = let x = choice_head d k h ws rest o b in parts_read programs choices d k ws rest x.0 x.1 second k' M left r
-
--- where so many of k steps are left
-abbrev Left : ℕ → ℕ → Program → Type 0
-Left k left p = steps p + left ≡ k
-
-module _ (d k : ℕ) (h : Head) (ws rest : List ℕ) (b : HeadIn d k ws h rest) where
-  both_read : (o : (h ≡ Sequence) ⊎ (h ≡ Choice)) (second more : List ℕ) (k' left : ℕ) → ProgramIn (d - 1) k rest second k' → ProgramIn (d - 1) k' second more left → ProgramIn d k ws more left
-  both_read (inl o) second more k' left r s = sequence_read d k h ws rest b second k' (Left k k') (λ p e. e) r o more (Left k' left) (Left k left) (λ p q x y. omega arith) s
-  both_read (inr o) second more k' left r s = choice_read d k h ws rest b second k' (Left k k') (λ p e. e) r o more (Left k' left) (Left k left) (λ p q x y. omega arith) s
-
-  -- What the second part comes to is what both come to.
-  pub program_second : {X : Type 0} (rest_of : X → List ℕ) (left_of : X → ℕ) (r : Result X Fault) (o : (h ≡ Sequence) ⊎ (h ≡ Choice)) (second : List ℕ) (k' : ℕ) → ProgramIn (d - 1) k rest second k' → MatchResult r (λ x. ProgramIn (d - 1) k' second (rest_of x) (left_of x)) (ProgramFault (d - 1) k' second) → MatchResult r (λ x. ProgramIn d k ws (rest_of x) (left_of x)) (ProgramFault d k ws)
-  program_second rest_of left_of (Ok x) o second k' p s = both_read o second (rest_of x) k' (left_of x) p s
-  program_second rest_of left_of (Err f) o second k' p s = second_fault d k h ws rest b second k' (Left k k') (λ p e. e) p o f s
-
-  -- What its part comes to is what it comes to.
-  pub program_only : {X : Type 0} (rest_of : X → List ℕ) (left_of : X → ℕ) (r : Result X Fault) → h ≡ Star → MatchResult r (λ x. ProgramIn (d - 1) k rest (rest_of x) (left_of x)) (ProgramFault (d - 1) k rest) → MatchResult r (λ x. ProgramIn d k ws (rest_of x) (left_of x)) (ProgramFault d k ws)
-  program_only rest_of left_of (Ok x) o s = star_read d k h ws rest b o (rest_of x) (Left k (left_of x)) (Left k (left_of x)) (λ p e. e) s
-  program_only rest_of left_of (Err f) o s = star_fault d k h ws rest b o f s

@@ -1,11 +1,9 @@
 -- What the functions that read a part of the words answer: what they read, or the fault that they met.
---     ProgramIn     the words ws begin with a program that keeps every limit, and the rest follows it: there is room for d
---                   levels and k steps, of which so many are left; TestIn: the same of a test, with room for d levels
 --     TermAs        the words ws begin with a term that keeps every limit and is as M says, and the rest follows it: there is
 --                   room for d levels and k steps; ProgramAs: the term is a program; TestAs: it is a test, which has no steps
 --     FaultIn       the fault is met in the words ws, read as terms by `code` and K
-use Rattle.std.specs.Prelude.{◌≡◌, ℕ, ◌+◌, ◌≤◌, List, [], ◌∷◌, ◌++◌, length}
-use Rattle.kat.specs.Programs.{Test, Program, guard, steps, Limit, Keeps}
+use Rattle.std.specs.Prelude.{◌≡◌, ℕ, ◌≤◌, List, [], ◌∷◌, ◌++◌, length}
+use Rattle.kat.specs.Programs.{Test, Program, guard, Limit, Keeps}
 use Rattle.kat.specs.Words.{test_words, words}
 use Rattle.reader.specs.declared.refusals.Reason.TheVariants.{Ended, OutOfRange}
 use Rattle.reader.specs.declared.refusals.Fault.{Fault}
@@ -13,12 +11,6 @@ use Rattle.reader.specs.Limits.{TestKeeps}
 use Rattle.reader.specs.Faults.{All, Met}
 use Rattle.reader.specs.Heads.{NoHead, NoTestHead}
 use Rattle.reader.specs.Reading.{Told}
-
-abbrev pub TestIn : ℕ → List ℕ → List ℕ → Type 0
-TestIn d ws rest = (t : Test) × (ws ≡ test_words t ++ rest) × All (TestKeeps d) t
-
-abbrev pub ProgramIn : ℕ → ℕ → List ℕ → List ℕ → ℕ → Type 0
-ProgramIn d k ws rest left = (p : Program) × (ws ≡ words p ++ rest) × All (Keeps d k) p × (steps p + left ≡ k)
 
 abbrev pub TermAs : {A : Type 0} → (A → Program) → (A → List ℕ) → (A → Type 0) → ℕ → ℕ → List ℕ → List ℕ → Type 0
 TermAs {A} program code M d k ws rest = (a : A) × (ws ≡ code a ++ rest) × All (λ l a. Keeps d k l (program a)) a × M a

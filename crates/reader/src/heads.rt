@@ -1,5 +1,6 @@
 // What a program, and a test, begins with.
-ghost use Rattle.std.specs.Prelude.{◌≡◌, ◌<◌, ◌∷◌, MatchResult};
+ghost use Rattle.std.specs.Prelude.{◌≡◌, ◌<◌, [], ◌∷◌, length, MatchResult};
+ghost use Rattle.reader.specs.declared.refusals.Reason.TheVariants.{Ended};
 ghost use Rattle.reader.specs.Heads.{HeadIn, TestHeadIn};
 ghost use Rattle.reader.specs.Parts.{BadNumber, HeadFault, TestHeadFault};
 
@@ -25,7 +26,7 @@ pub enum Head {
     Star,
 }
 
-// The beginning of a test. What follows is one or two tests behind the last three.
+// The beginning of a test, which has other codes and other parts than a program, and no steps. What follows is one or two tests behind the last three.
 #[derive(Clone, Copy)]
 pub enum TestHead {
     Always,
@@ -36,27 +37,33 @@ pub enum TestHead {
     Opposite,
 }
 
+// The first of the words, and what follows it.
+fn word(words: &[u32]) -> Result<(u32, &[u32]), Fault>
+    ensures { MatchResult result (λ x. words.now ≡ x.0 ∷ x.1.now) (λ f. (words.now ≡ []) × (f ≡ record { reason = Ended; left = length words.now })) }
+{
+    let Some((word, rest)) = words.split_first() else {
+        return Err(Fault::at(Reason::Ended, words));
+    };
+    Ok((*word, rest))
+}
+
 // The number that the words begin with, below a limit, and what follows it.
 fn number(words: &[u32], limit: u32) -> Result<(u32, &[u32]), Fault>
     ensures { MatchResult result (λ x. (words.now ≡ x.0 ∷ x.1.now) × (x.0 < limit)) (BadNumber limit words.now) }
 {
-    let Some((n, rest)) = words.split_first() else {
-        return Err(Fault::at(Reason::Ended, words));
-    };
-    if *n >= limit {
+    let (n, rest) = word(words)?;
+    if n >= limit {
         return Err(Fault::at(Reason::OutOfRange, words));
     }
-    Ok((*n, rest))
+    Ok((n, rest))
 }
 
 // The head of the program that the words begin with, and what follows it, where there is room for so many levels and steps.
 pub fn head_of(words: &[u32], depth: u32, steps: u32) -> Result<(Head, &[u32]), Fault>
     ensures { MatchResult result (λ x. HeadIn depth steps words.now x.0 x.1.now) (HeadFault depth steps words.now) }
 {
-    let Some((code, rest)) = words.split_first() else {
-        return Err(Fault::at(Reason::Ended, words));
-    };
-    match *code {
+    let (code, rest) = word(words)?;
+    match code {
         0 => Ok((Head::Guard, rest)),
         1 => {
             if steps == 0 {
@@ -69,7 +76,7 @@ pub fn head_of(words: &[u32], depth: u32, steps: u32) -> Result<(Head, &[u32]), 
             if depth == 0 {
                 return Err(Fault::at(Reason::TooDeep, words));
             }
-            match *code {
+            match code {
                 2 => Ok((Head::Sequence, rest)),
                 3 => Ok((Head::Choice, rest)),
                 _ => Ok((Head::Star, rest)),
@@ -83,10 +90,8 @@ pub fn head_of(words: &[u32], depth: u32, steps: u32) -> Result<(Head, &[u32]), 
 pub fn test_head_of(words: &[u32], depth: u32) -> Result<(TestHead, &[u32]), Fault>
     ensures { MatchResult result (λ x. TestHeadIn depth words.now x.0 x.1.now) (TestHeadFault depth words.now) }
 {
-    let Some((code, rest)) = words.split_first() else {
-        return Err(Fault::at(Reason::Ended, words));
-    };
-    match *code {
+    let (code, rest) = word(words)?;
+    match code {
         0 => Ok((TestHead::Always, rest)),
         1 => Ok((TestHead::Never, rest)),
         2 => {
@@ -97,7 +102,7 @@ pub fn test_head_of(words: &[u32], depth: u32) -> Result<(TestHead, &[u32]), Fau
             if depth == 0 {
                 return Err(Fault::at(Reason::TooDeep, words));
             }
-            match *code {
+            match code {
                 3 => Ok((TestHead::Both, rest)),
                 4 => Ok((TestHead::Any, rest)),
                 _ => Ok((TestHead::Opposite, rest)),

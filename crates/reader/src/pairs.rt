@@ -3,8 +3,9 @@ ghost use Rattle.std.specs.Prelude.{◌≤◌, length, MatchResult};
 ghost use Rattle.reader.specs.Reading.{IsPair, OneAnswer, Refused};
 ghost use Rattle.reader.specs.Parts.{PairFault};
 
-use crate::parts::after_program;
+use crate::parts::read_program;
 use crate::refusals::{Fault, Reason, Refusal};
+use crate::room::Room;
 
 // The most words that two programs may have.
 pub const MAX_WORDS: usize = 4096;
@@ -15,7 +16,8 @@ pub const MAX_DEPTH: u32 = 64;
 // The most steps that may be written in a program.
 pub const MAX_STEPS: u32 = 12;
 
-// Where the second of two programs begins, and how many steps are written in each.
+// Where the second of two programs begins, and how many steps are written in each. An index and not a slice: equal slices
+// may lie apart, and words have one answer only.
 #[derive(Clone, Copy, PartialEq, Eq, Debug)]
 pub struct Pair {
     pub second: usize,
@@ -25,22 +27,25 @@ pub struct Pair {
 
 // The two programs that words are, which are not too many.
 fn two_programs(words: &[u32]) -> Result<Pair, Fault>
-    requires { length words.now ≤ 4096 }
+    requires { length words.now ≤ MAX_WORDS }
     ensures { MatchResult result (IsPair words.now) (PairFault words.now) }
 {
-    let (second, first_left) = after_program(words, MAX_DEPTH, MAX_STEPS)?;
-    let (rest, second_left) = after_program(second, MAX_DEPTH, MAX_STEPS)?;
+    let mut first = Room { steps: MAX_STEPS };
+    let (_, other) = read_program(&mut first, words, MAX_DEPTH)?;
+    let mut second = Room { steps: MAX_STEPS };
+    let (_, rest) = read_program(&mut second, other, MAX_DEPTH)?;
     if !rest.is_empty() {
         return Err(Fault::at(Reason::LeftOver, rest));
     }
     Ok(Pair {
-        second: words.len() - second.len(),
-        first_steps: MAX_STEPS - first_left,
-        second_steps: MAX_STEPS - second_left,
+        second: words.len() - other.len(),
+        first_steps: MAX_STEPS - first.steps,
+        second_steps: MAX_STEPS - second.steps,
     })
 }
 
 // The two programs in range that the words are, or why they are none.
+#[tactic(auto, using(crate::proofs::OneAnswer::one_answer))]
 pub fn read_pair(words: &[u32]) -> Result<Pair, Refusal>
     ensures answer { MatchResult result (IsPair words.now) (Refused words.now) }
     ensures exact { OneAnswer }
@@ -51,11 +56,8 @@ pub fn read_pair(words: &[u32]) -> Result<Pair, Refusal>
             at: MAX_WORDS,
         });
     }
-    match two_programs(words) {
-        Ok(pair) => Ok(pair),
-        Err(Fault { reason, left }) => Err(Refusal {
-            reason,
-            at: words.len() - left,
-        }),
-    }
+    two_programs(words).map_err(|fault| Refusal {
+        reason: fault.reason,
+        at: words.len() - fault.left,
+    })
 }

@@ -1,40 +1,67 @@
-// Reads a program, and a test, to its end.
+// Reads a test, and a program, to its end, and makes it into what is wanted. Words and depth are no struct: at each level
+// the depth is one less, and behind it what it was, while the words go on.
 ghost use Rattle.std.specs.Result.{MatchResult};
-ghost use Rattle.reader.specs.Parts.{ProgramFault, ProgramIn, TestFault, TestIn};
+ghost use Rattle.reader.specs.Parts.{ProgramAs, ProgramFault, TestAs, TestFault};
 
+use crate::builders::{Builder, TestValue};
 use crate::heads::{Head, TestHead, head_of, test_head_of};
 use crate::refusals::Fault;
 
-// What follows the test that the words begin with, where there is room for so many levels.
-pub(crate) fn after_test(words: &[u32], depth: u32) -> Result<&[u32], Fault>
-    ensures { MatchResult result (λ x. TestIn depth words.now x.now) (TestFault depth words.now) }
+// What the test is made into that the words begin with, and what follows it, where there is room for so many levels.
+pub fn read_test<T: TestValue>(words: &[u32], depth: u32) -> Result<(T, &[u32]), Fault>
+    ensures { MatchResult result (λ x. TestAs (T.made_of x.0) depth words.now x.1.now) (TestFault depth words.now) }
 {
     let (head, rest) = test_head_of(words, depth)?;
     match head {
-        TestHead::Always | TestHead::Never | TestHead::Test(_) => Ok(rest),
-        TestHead::Both | TestHead::Any => {
-            let second = after_test(rest, depth - 1)?;
-            after_test(second, depth - 1)
+        TestHead::Always => Ok((T::always(), rest)),
+        TestHead::Never => Ok((T::never(), rest)),
+        TestHead::Test(n) => Ok((T::test(n), rest)),
+        TestHead::Both => {
+            let (one, second) = read_test::<T>(rest, depth - 1)?;
+            let (other, rest) = read_test(second, depth - 1)?;
+            Ok((one.both(other), rest))
         }
-        TestHead::Opposite => after_test(rest, depth - 1),
+        TestHead::Any => {
+            let (one, second) = read_test::<T>(rest, depth - 1)?;
+            let (other, rest) = read_test(second, depth - 1)?;
+            Ok((one.any(other), rest))
+        }
+        TestHead::Opposite => {
+            let (test, rest) = read_test::<T>(rest, depth - 1)?;
+            Ok((test.opposite(), rest))
+        }
     }
 }
 
-// What follows the program that the words begin with, and how many of the steps that there is room for are left.
-pub(crate) fn after_program(words: &[u32], depth: u32, steps: u32) -> Result<(&[u32], u32), Fault>
-    ensures { MatchResult result (λ x. ProgramIn depth steps words.now x.0.now x.1) (ProgramFault depth steps words.now) }
+// Adds the program that the words begin with, where there is room for so many levels. Gives what it is made into, and
+// what follows it.
+pub fn read_program<'a, B: Builder>(
+    builder: &mut B,
+    words: &'a [u32],
+    depth: u32,
+) -> Result<(B::Part, &'a [u32]), Fault>
+    ensures { MatchResult result (λ x. ProgramAs (λ p. B.added builder.old p builder.new x.0) depth (B.room_of builder.old) words.now x.1.now) (ProgramFault depth (B.room_of builder.old) words.now) }
 {
-    let (head, rest) = head_of(words, depth, steps)?;
+    let (head, rest) = head_of(words, depth, builder.room())?;
     match head {
         Head::Guard => {
-            let rest = after_test(rest, depth)?;
-            Ok((rest, steps))
+            let (test, rest) = read_test::<B::Test>(rest, depth)?;
+            Ok((builder.guard(test), rest))
         }
-        Head::Step(_) => Ok((rest, steps - 1)),
-        Head::Sequence | Head::Choice => {
-            let (second, steps) = after_program(rest, depth - 1, steps)?;
-            after_program(second, depth - 1, steps)
+        Head::Step(step) => Ok((builder.step(step), rest)),
+        Head::Sequence => {
+            let (first, second) = read_program(builder, rest, depth - 1)?;
+            let (next, rest) = read_program(builder, second, depth - 1)?;
+            Ok((builder.sequence(first, next), rest))
         }
-        Head::Star => after_program(rest, depth - 1, steps),
+        Head::Choice => {
+            let (one, second) = read_program(builder, rest, depth - 1)?;
+            let (other, rest) = read_program(builder, second, depth - 1)?;
+            Ok((builder.choice(one, other), rest))
+        }
+        Head::Star => {
+            let (once, rest) = read_program(builder, rest, depth - 1)?;
+            Ok((builder.star(once), rest))
+        }
     }
 }

@@ -42,12 +42,11 @@ impl Fault {
     }
 }
 
-impl Reason {
-    // The reason in words.
-    pub fn text(self) -> &'static str
-        ensures { result.now ≡ reason_text self }
-    {
-        match self {
+impl fmt::Display for Reason {
+    ghost output = { λ r. Some (reason_text r) };
+
+    fn fmt<W: fmt::Write>(&self, f: &mut fmt::Formatter<W>) -> fmt::Result {
+        f.write_str(match self {
             Reason::TooLong => "too long",
             Reason::Ended => "ended inside a program",
             Reason::NoCode => "no code",
@@ -55,7 +54,7 @@ impl Reason {
             Reason::TooDeep => "too deep",
             Reason::TooManySteps => "too many steps",
             Reason::LeftOver => "words left over",
-        }
+        })
     }
 }
 
@@ -63,8 +62,6 @@ impl fmt::Display for Refusal {
     ghost output = { λ r. Some (refusal_text r) };
 
     fn fmt<W: fmt::Write>(&self, f: &mut fmt::Formatter<W>) -> fmt::Result {
-        let reason = self.reason.text();
-        let at = self.at;
-        write!(f, "{reason}, at word {at}")
+        write!(f, "{}, at word {}", self.reason, self.at)
     }
 }

@@ -3,4 +3,4 @@ use Rattle.automaton.proofs.Joining.{JoinedTo}
 use Rattle.automaton.proofs.rows.joined.Given as goal
 
 abbrev pub invariant-loop-atom : goal.invariant-loop-atom
-invariant-loop-atom l = JoinedTo l.atom l.one l.other l.atoms l.all
+invariant-loop-atom l = JoinedTo l.atom l.one l.other l.atoms l.places-items

@@ -3,4 +3,4 @@ use Rattle.lines.proofs.LineReads.{reads_more}
 use Rattle.lines.proofs.Line.push.Goals as goal
 
 pub returns-clause-read : goal.returns-clause-read
-returns-clause-read c = record { scan = search rules; column = search rules; reads = reads_more _ _ _ (search rules) }
+returns-clause-read g c = record { scan = search rules; column = search rules; reads = reads_more _ _ _ _ (search rules) }

@@ -1,14 +1,17 @@
 use Rattle.std.proofs.Common.{refl}
-use Rattle.std.proofs.lemmas.List.{get_or-replicate}
-use Rattle.std.proofs.lemmas.Result.{err_from_is_err_and}
-use Rattle.automaton.proofs.ReadTables.{program_read}
-use Rattle.automaton.proofs.OneReading.{one_reading}
+use Rattle.reader.proofs.HandedOn.{handed_on}
+use Rattle.automaton.proofs.ReadTables.{program_described, program_read}
 use Rattle.automaton.proofs.automata.Automaton.read.Goals as goal
 
-pub returns : goal.returns
-returns c = record { answer = program_read _ _ _ _ _ _ refl (λ s h. get_or-replicate 8 s 0 0 h) refl refl refl refl c.in_ok-beginning.ensures; exact = one_reading }
+pub invariant_of-result : goal.invariant_of-result
+invariant_of-result c =
+    let d = program_described _ _ _ _ _ _ c.new-tables.ensures refl refl refl c.in_ok-beginning.ensures in
+    record { of_program = ∣ (d.0, d.2, d.3) ∣₁ }
 
-pub returns-in_err-beginning : goal.returns-in_err-beginning
-returns-in_err-beginning c =
-    let p = err_from_is_err_and c.from_residual.result c.from_residual.ensures.1 in
-    record { answer = rw (p.1, p.2) c.in_err-beginning.ensures; exact = one_reading }
+pub returns-clause-answer : goal.returns-clause-answer
+returns-clause-answer c =
+    let d = program_described _ _ _ _ _ _ c.new-tables.ensures refl refl refl c.in_ok-beginning.ensures in
+    program_read _ _ _ d
+
+pub returns-in_err-beginning-clause-answer : goal.returns-in_err-beginning-clause-answer
+returns-in_err-beginning-clause-answer c = handed_on _ _ _ _ c.from_residual.ensures.1 (rw c.new-tables.ensures.no_places at c.in_err-beginning.ensures)

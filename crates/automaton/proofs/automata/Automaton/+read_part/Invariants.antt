@@ -1,5 +1,0 @@
--- The depth that is left falls.
-use Rattle.automaton.proofs.automata.Automaton.+read_part.Given as goal
-
-abbrev pub decreases-read_part : goal.decreases-read_part
-decreases-read_part l = l.depth
