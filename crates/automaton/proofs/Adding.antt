@@ -28,11 +28,11 @@ pub guard_added : (t : Test) (m : ℕ) (old : Tables) (row : Row) → AtomsOf m 
 guard_added t m old row h e = record {
   places_are = omega arith;
   as_many_rows = refl;
-  row_is = row_alike row (λ a. refl) (λ a y. sym (behind_none old.places y)) (ending_is (λ a. nullable (guard t) a) m row h e);
+  row_is = row_alike row (λ a. refl) (λ a y. sym (behind_none old.end.number y)) (ending_is (λ a. nullable (guard t) a) m row h e);
   rows_are = λ x k. absurd (omega arith);
   rows_kept = λ i k. refl;
-  labelled_are = λ s k y. or_none (bit y (get_or old.labelled s 0)) (behind old.places (labelled (automaton_of (guard t)) s) y)
-      (behind_same old.places y (labelled (automaton_of (guard t)) s) (λ x. false) (λ x. ap (λ b. b && eqb (label (guard t) x) s) (le-ltb x 0 (omega arith))) ∙ behind_none old.places y);
+  labelled_are = λ s k y. or_none (bit y (get_or old.labelled s 0)) (behind old.end.number (labelled (automaton_of (guard t)) s) y)
+      (behind_same old.end.number y (labelled (automaton_of (guard t)) s) (λ x. false) (λ x. ap (λ b. b && eqb (label (guard t) x) s) (le-ltb x 0 (omega arith))) ∙ behind_none old.end.number y);
 }
 
 -- The places of two parts, the one's before the other's.
@@ -59,30 +59,30 @@ module _ (p q : Program) where
       ∙ behind_two n (steps p) y (labelled (automaton_of p) s) (labelled (automaton_of q) s) (labelled_within s)
 
   module _ (old mid new : Tables) (one other : Row) (A : Added p old mid one) (B : Added q mid new other) where
-    both_labelled_are : (s : ℕ) → s < 8 → PlacesAre (λ y. bit y (get_or old.labelled s 0) || behind old.places (λ x. ltb x (steps p + steps q) && eqb (both_labels x) s) y) (get_or new.labelled s 0)
+    both_labelled_are : (s : ℕ) → s < 8 → PlacesAre (λ y. bit y (get_or old.labelled s 0) || behind old.end.number (λ x. ltb x (steps p + steps q) && eqb (both_labels x) s) y) (get_or new.labelled s 0)
     both_labelled_are s k y =
         B.labelled_are s k y
-        ∙ rw (A.labelled_are s k y, A.places_are, both_behind old.places s y) (or_assoc (bit y (get_or old.labelled s 0)) (behind old.places (labelled (automaton_of p) s) y) (behind (old.places + steps p) (labelled (automaton_of q) s) y))
+        ∙ rw (A.labelled_are s k y, A.places_are, both_behind old.end.number s y) (or_assoc (bit y (get_or old.labelled s 0)) (behind old.end.number (labelled (automaton_of p) s) y) (behind (old.end.number + steps p) (labelled (automaton_of q) s) y))
 
-    both_places : new.places ≡ old.places + (steps p + steps q)
+    both_places : new.end.number ≡ old.end.number + (steps p + steps q)
     both_places = omega (arith, A.places_are, B.places_are)
 
     -- The rows of the first part are as they were when it was added,
-    first_rows : (x : ℕ) → x < steps p → RowIs (last p x) (λ a. behind old.places (follow p x a)) (row_at new.rows (old.places + x))
-    first_rows x h = subst (RowIs (last p x) (λ a. behind old.places (follow p x a))) (sym (B.rows_kept (old.places + x) (omega (arith, A.places_are)))) (A.rows_are x h)
+    first_rows : (x : ℕ) → x < steps p → RowIs (last p x) (λ a. behind old.end.number (follow p x a)) (row_at new.rows (old.end.number + x))
+    first_rows x h = subst (RowIs (last p x) (λ a. behind old.end.number (follow p x a))) (sym (B.rows_kept (old.end.number + x) (omega (arith, A.places_are)))) (A.rows_are x h)
 
     -- those of the second are behind them,
-    second_rows : (u : ℕ) → u < steps q → RowIs (last q u) (λ a. behind (old.places + steps p) (follow q u a)) (row_at new.rows (old.places + (steps p + u)))
+    second_rows : (u : ℕ) → u < steps q → RowIs (last q u) (λ a. behind (old.end.number + steps p) (follow q u a)) (row_at new.rows (old.end.number + (steps p + u)))
     second_rows u h =
-        let e : mid.places + u ≡ old.places + (steps p + u) = omega (arith, A.places_are) in
-        subst (λ n. RowIs (last q u) (λ a. behind n (follow q u a)) (row_at new.rows (old.places + (steps p + u)))) A.places_are
-        (subst (λ i. RowIs (last q u) (λ a. behind mid.places (follow q u a)) (row_at new.rows i)) e (B.rows_are u h))
+        let e : mid.end.number + u ≡ old.end.number + (steps p + u) = omega (arith, A.places_are) in
+        subst (λ n. RowIs (last q u) (λ a. behind n (follow q u a)) (row_at new.rows (old.end.number + (steps p + u)))) A.places_are
+        (subst (λ i. RowIs (last q u) (λ a. behind mid.end.number (follow q u a)) (row_at new.rows i)) e (B.rows_are u h))
 
-    second_row : RowIs (nullable q) (λ a. behind (old.places + steps p) (first q a)) other
+    second_row : RowIs (nullable q) (λ a. behind (old.end.number + steps p) (first q a)) other
     second_row = subst (λ n. RowIs (nullable q) (λ a. behind n (first q a)) other) A.places_are B.row_is
 
     -- and those before both as they were.
-    old_rows : (i : ℕ) → i < old.places → row_at new.rows i ≡ row_at old.rows i
+    old_rows : (i : ℕ) → i < old.end.number → row_at new.rows i ≡ row_at old.rows i
     old_rows i h = B.rows_kept i (omega (arith, A.places_are)) ∙ A.rows_kept i h
 
 -- What follows a place of the second part is of the second part.
@@ -103,66 +103,66 @@ module _ (p q : Program) (old mid new : Tables) (one other row : Row) (A : Added
   choice_added t = record {
     places_are = both_places p q old mid new one other A B;
     as_many_rows = B.as_many_rows ∙ A.as_many_rows;
-    row_is = row_alike row (λ a. refl) (λ a y. sym (behind_two old.places (steps p) y (first p a) (first q a) (first_within p a)))
-        (or_is (nullable p) (nullable q) (λ a. behind old.places (first p a)) (λ a. behind (old.places + steps p) (first q a)) one other row A.row_is (second_row p q old mid new one other A B) t);
+    row_is = row_alike row (λ a. refl) (λ a y. sym (behind_two old.end.number (steps p) y (first p a) (first q a) (first_within p a)))
+        (or_is (nullable p) (nullable q) (λ a. behind old.end.number (first p a)) (λ a. behind (old.end.number + steps p) (first q a)) one other row A.row_is (second_row p q old mid new one other A B) t);
     rows_are = λ x h. rows x (side_of (steps p) (steps q) x h);
     rows_kept = old_rows p q old mid new one other A B;
     labelled_are = both_labelled_are p q old mid new one other A B;
   }
     where
-      rows : (x : ℕ) → Side (steps p) (steps q) x → RowIs (last (choice p q) x) (λ a. behind old.places (follow (choice p q) x a)) (row_at new.rows (old.places + x))
+      rows : (x : ℕ) → Side (steps p) (steps q) x → RowIs (last (choice p q) x) (λ a. behind old.end.number (follow (choice p q) x a)) (row_at new.rows (old.end.number + x))
       rows x (here h) =
-          row_alike (row_at new.rows (old.places + x)) (λ a. sym (side_left (steps p) x (λ u. last p u a) (λ u. last q u a) h))
-          (λ a y. or_none (behind old.places (follow p x a) y) (behind (old.places + steps p) (λ v. false) y) (behind_none (old.places + steps p) y)
-          ∙ sym (first_follow old.places x a y p (λ w v. false) (λ w v. side (steps p) v (λ z. false) (follow q w a)) h))
+          row_alike (row_at new.rows (old.end.number + x)) (λ a. sym (side_left (steps p) x (λ u. last p u a) (λ u. last q u a) h))
+          (λ a y. or_none (behind old.end.number (follow p x a) y) (behind (old.end.number + steps p) (λ v. false) y) (behind_none (old.end.number + steps p) y)
+          ∙ sym (first_follow old.end.number x a y p (λ w v. false) (λ w v. side (steps p) v (λ z. false) (follow q w a)) h))
           (first_rows p q old mid new one other A B x h)
       rows x (there {x = u} h) =
-          row_alike (row_at new.rows (old.places + (steps p + u))) (λ a. sym (side_right (steps p) u (λ u. last p u a) (λ u. last q u a)))
-          (λ a y. sym (second_follow old.places (steps p) u a y q (λ w v. side (steps p) v (follow p w a) (λ z. false))))
+          row_alike (row_at new.rows (old.end.number + (steps p + u))) (λ a. sym (side_right (steps p) u (λ u. last p u a) (λ u. last q u a)))
+          (λ a y. sym (second_follow old.end.number (steps p) u a y q (λ w v. side (steps p) v (follow p w a) (λ z. false))))
           (second_rows p q old mid new one other A B u h)
 
-  pub sequence_added : (final : Tables) → LedOn old.places mid.places new other final → Then one other row → Added (seq p q) old final row
+  pub sequence_added : (final : Tables) → LedOn old.end.number mid.end.number new other final → Then one other row → Added (seq p q) old final row
   sequence_added final l t = record {
     places_are = l.places_kept ∙ both_places p q old mid new one other A B;
     as_many_rows = l.as_many_rows ∙ B.as_many_rows ∙ A.as_many_rows;
     row_is = row_alike row (λ a. refl)
-        (λ a y. ap (λ b. behind old.places (first p a) y || b) (sym (behind_and (old.places + steps p) y (nullable p a) (first q a)))
-        ∙ sym (behind_two old.places (steps p) y (first p a) (λ v. nullable p a && first q a v) (first_within p a)))
-        (then_is (nullable p) (nullable q) (λ a. behind old.places (first p a)) (λ a. behind (old.places + steps p) (first q a)) one other row A.row_is (second_row p q old mid new one other A B) t);
+        (λ a y. ap (λ b. behind old.end.number (first p a) y || b) (sym (behind_and (old.end.number + steps p) y (nullable p a) (first q a)))
+        ∙ sym (behind_two old.end.number (steps p) y (first p a) (λ v. nullable p a && first q a v) (first_within p a)))
+        (then_is (nullable p) (nullable q) (λ a. behind old.end.number (first p a)) (λ a. behind (old.end.number + steps p) (first q a)) one other row A.row_is (second_row p q old mid new one other A B) t);
     rows_are = λ x h. rows x (side_of (steps p) (steps q) x h);
     rows_kept = λ i h. l.rows_kept i (inl h) ∙ old_rows p q old mid new one other A B i h;
-    labelled_are = λ s k. subst (λ hs. PlacesAre (λ y. bit y (get_or old.labelled s 0) || behind old.places (labelled (automaton_of (seq p q)) s) y) (get_or hs s 0)) (sym l.labelled_kept) (both_labelled_are p q old mid new one other A B s k);
+    labelled_are = λ s k. subst (λ hs. PlacesAre (λ y. bit y (get_or old.labelled s 0) || behind old.end.number (labelled (automaton_of (seq p q)) s) y) (get_or hs s 0)) (sym l.labelled_kept) (both_labelled_are p q old mid new one other A B s k);
   }
     where
-      rows : (x : ℕ) → Side (steps p) (steps q) x → RowIs (last (seq p q) x) (λ a. behind old.places (follow (seq p q) x a)) (row_at final.rows (old.places + x))
+      rows : (x : ℕ) → Side (steps p) (steps q) x → RowIs (last (seq p q) x) (λ a. behind old.end.number (follow (seq p q) x a)) (row_at final.rows (old.end.number + x))
       rows x (here h) =
-          row_alike (row_at final.rows (old.places + x)) (λ a. sym (side_left (steps p) x (λ u. last p u a && nullable q a) (λ u. last q u a) h))
-          (λ a y. ap (λ b. behind old.places (follow p x a) y || b) (sym (behind_and (old.places + steps p) y (last p x a) (first q a)))
-          ∙ sym (first_follow old.places x a y p (λ w v. last p w a && first q a v) (λ w v. side (steps p) v (λ z. false) (follow q w a)) h))
-          (then_is (last p x) (nullable q) (λ a. behind old.places (follow p x a)) (λ a. behind (old.places + steps p) (first q a)) (row_at new.rows (old.places + x)) other (row_at final.rows (old.places + x))
-          (first_rows p q old mid new one other A B x h) (second_row p q old mid new one other A B) (l.led (old.places + x) (omega arith) (omega (arith, A.places_are))))
+          row_alike (row_at final.rows (old.end.number + x)) (λ a. sym (side_left (steps p) x (λ u. last p u a && nullable q a) (λ u. last q u a) h))
+          (λ a y. ap (λ b. behind old.end.number (follow p x a) y || b) (sym (behind_and (old.end.number + steps p) y (last p x a) (first q a)))
+          ∙ sym (first_follow old.end.number x a y p (λ w v. last p w a && first q a v) (λ w v. side (steps p) v (λ z. false) (follow q w a)) h))
+          (then_is (last p x) (nullable q) (λ a. behind old.end.number (follow p x a)) (λ a. behind (old.end.number + steps p) (first q a)) (row_at new.rows (old.end.number + x)) other (row_at final.rows (old.end.number + x))
+          (first_rows p q old mid new one other A B x h) (second_row p q old mid new one other A B) (l.led (old.end.number + x) (omega arith) (omega (arith, A.places_are))))
       rows x (there {x = u} h) =
-          row_alike (row_at final.rows (old.places + (steps p + u))) (λ a. sym (side_right (steps p) u (λ u. last p u a && nullable q a) (λ u. last q u a)))
-          (λ a y. sym (second_follow old.places (steps p) u a y q (λ w v. side (steps p) v (follow p w a) (λ z. last p w a && first q a z))))
-          (subst (RowIs (last q u) (λ a. behind (old.places + steps p) (follow q u a))) (sym (l.rows_kept (old.places + (steps p + u)) (inr (omega (arith, A.places_are))))) (second_rows p q old mid new one other A B u h))
+          row_alike (row_at final.rows (old.end.number + (steps p + u))) (λ a. sym (side_right (steps p) u (λ u. last p u a && nullable q a) (λ u. last q u a)))
+          (λ a y. sym (second_follow old.end.number (steps p) u a y q (λ w v. side (steps p) v (follow p w a) (λ z. last p w a && first q a z))))
+          (subst (RowIs (last q u) (λ a. behind (old.end.number + steps p) (follow q u a))) (sym (l.rows_kept (old.end.number + (steps p + u)) (inr (omega (arith, A.places_are))))) (second_rows p q old mid new one other A B u h))
 
 -- Again and again: it may end at every atom, and past what may end it may begin again.
-pub star_added : (p : Program) (old new final : Tables) (once again : Row) → Added p old new once → OrNothing once again → LedOn old.places new.places new again final → Added (star p) old final again
+pub star_added : (p : Program) (old new final : Tables) (once again : Row) → Added p old new once → OrNothing once again → LedOn old.end.number new.end.number new again final → Added (star p) old final again
 star_added p old new final once again A o l = record {
   places_are = l.places_kept ∙ A.places_are;
   as_many_rows = l.as_many_rows ∙ A.as_many_rows;
   row_is = row;
-  rows_are = λ x h. row_alike (row_at final.rows (old.places + x)) (λ a. and-true (last p x a))
-      (λ a y. ap (λ b. behind old.places (follow p x a) y || b) (sym (behind_and old.places y (last p x a) (first p a)))
-      ∙ sym (behind_or old.places y (follow p x a) (λ v. last p x a && first p a v)))
-      (then_is (last p x) (λ a. true) (λ a. behind old.places (follow p x a)) (λ a. behind old.places (first p a)) (row_at new.rows (old.places + x)) again (row_at final.rows (old.places + x))
-      (A.rows_are x h) row (l.led (old.places + x) (omega arith) (omega (arith, A.places_are))));
+  rows_are = λ x h. row_alike (row_at final.rows (old.end.number + x)) (λ a. and-true (last p x a))
+      (λ a y. ap (λ b. behind old.end.number (follow p x a) y || b) (sym (behind_and old.end.number y (last p x a) (first p a)))
+      ∙ sym (behind_or old.end.number y (follow p x a) (λ v. last p x a && first p a v)))
+      (then_is (last p x) (λ a. true) (λ a. behind old.end.number (follow p x a)) (λ a. behind old.end.number (first p a)) (row_at new.rows (old.end.number + x)) again (row_at final.rows (old.end.number + x))
+      (A.rows_are x h) row (l.led (old.end.number + x) (omega arith) (omega (arith, A.places_are))));
   rows_kept = λ i h. l.rows_kept i (inl h) ∙ A.rows_kept i h;
-  labelled_are = λ s k. subst (λ hs. PlacesAre (λ y. bit y (get_or old.labelled s 0) || behind old.places (labelled (automaton_of (star p)) s) y) (get_or hs s 0)) (sym l.labelled_kept) (A.labelled_are s k);
+  labelled_are = λ s k. subst (λ hs. PlacesAre (λ y. bit y (get_or old.labelled s 0) || behind old.end.number (labelled (automaton_of (star p)) s) y) (get_or hs s 0)) (sym l.labelled_kept) (A.labelled_are s k);
 }
   where
-    row : RowIs (λ a. true) (λ a. behind old.places (first p a)) again
+    row : RowIs (λ a. true) (λ a. behind old.end.number (first p a)) again
     row = record {
       ends_are = subst (AtomsAre (λ a. true)) (sym o.0) always_atoms;
-      next_are = λ a. subst (λ ns. PlacesAre (behind old.places (first p a)) (get_or ns (a % 16) 0)) (sym o.1) (A.row_is.next_are a);
+      next_are = λ a. subst (λ ns. PlacesAre (behind old.end.number (first p a)) (get_or ns (a % 16) 0)) (sym o.1) (A.row_is.next_are a);
     }

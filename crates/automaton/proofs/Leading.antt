@@ -57,7 +57,7 @@ module _ (from k : ℕ) (rows : List Row) (next : Row) (last : List Row) (b : fr
   part_kept i (inl j) = grind (arith, places, h.as_many, part_length)
   part_kept i (inr j) = grind (arith, places, h.as_many, part_length)
 
-pub rows_led : (from to : ℕ) (old new : Tables) (next : Row) (last : List Row) → from ≤ to → to ≤ length old.rows → Led (mid_of from (to - from) old.rows) next last → new.places ≡ old.places → new.labelled ≡ old.labelled → new.rows ≡ put_mid from (to - from) old.rows last → LedOn from to old next new
+pub rows_led : (from to : ℕ) (old new : Tables) (next : Row) (last : List Row) → from ≤ to → to ≤ length old.rows → Led (mid_of from (to - from) old.rows) next last → new.end.number ≡ old.end.number → new.labelled ≡ old.labelled → new.rows ≡ put_mid from (to - from) old.rows last → LedOn from to old next new
 rows_led from to old new next last a b h e f g =
     let n : from + (to - from) ≡ to = omega arith in
     let m : from + (to - from) ≤ length old.rows = omega arith in

@@ -41,34 +41,34 @@ label_known (choice p q) k x h = side_known (steps p) (steps q) x (label p) (lab
 label_known (star p) k x h = label_known p k x h
 
 module _ (p : Program) (old mid new : Tables) (row : Row) (z : Empty old) (k : Known p) (A : Added p old mid row)
-    (places_is : new.places ≡ mid.places) (rows_is : new.rows ≡ set mid.rows mid.places row) (labelled_is : new.labelled ≡ mid.labelled) where
-  all_places : mid.places ≡ steps p
+    (places_is : new.end.number ≡ mid.end.number) (rows_is : new.rows ≡ set mid.rows mid.end.number row) (labelled_is : new.labelled ≡ mid.labelled) where
+  all_places : mid.end.number ≡ steps p
   all_places = omega (arith, z.no_places, A.places_are)
 
-  at_row : (x : ℕ) → row_at new.rows x ≡ row_at (set mid.rows mid.places row) x
+  at_row : (x : ℕ) → row_at new.rows x ≡ row_at (set mid.rows mid.end.number row) x
   at_row x = ap (λ rows. row_at rows x) rows_is
 
   beginning_row : RowIs (ends_of p (from_bit (steps p) (steps p))) (next_of p (from_bit (steps p) (steps p))) (row_at new.rows (steps p))
   beginning_row =
-      let e : row_at new.rows (steps p) ≡ row = at_row (steps p) ∙ ap (row_at (set mid.rows mid.places row)) (sym all_places) ∙ row_put mid.rows mid.places row (omega (arith, mid.few, A.as_many_rows, z.as_many_rows)) in
-      rw (at_beginning (steps p), e) (row_alike row (λ a. refl) (λ a y. behind_none_before old.places y (first p a) z.no_places) A.row_is)
+      let e : row_at new.rows (steps p) ≡ row = at_row (steps p) ∙ ap (row_at (set mid.rows mid.end.number row)) (sym all_places) ∙ row_put mid.rows mid.end.number row (omega (arith, mid.end.within, A.as_many_rows, z.as_many_rows)) in
+      rw (at_beginning (steps p), e) (row_alike row (λ a. refl) (λ a y. behind_none_before old.end.number y (first p a) z.no_places) A.row_is)
 
   place_row : (x : ℕ) → x < steps p → RowIs (ends_of p (from_bit (steps p) x)) (next_of p (from_bit (steps p) x)) (row_at new.rows x)
   place_row x h =
-      let o : old.places + x ≡ x = omega (arith, z.no_places) in
-      let e : row_at new.rows x ≡ row_at mid.rows (old.places + x) = at_row x ∙ row_kept mid.rows mid.places x row (λ j. omega (arith, all_places)) ∙ ap (row_at mid.rows) (sym o) in
-      rw (at_place (steps p) x h, e) (row_alike (row_at mid.rows (old.places + x)) (λ a. refl) (λ a y. behind_none_before old.places y (follow p x a) z.no_places) (A.rows_are x h))
+      let o : old.end.number + x ≡ x = omega (arith, z.no_places) in
+      let e : row_at new.rows x ≡ row_at mid.rows (old.end.number + x) = at_row x ∙ row_kept mid.rows mid.end.number x row (λ j. omega (arith, all_places)) ∙ ap (row_at mid.rows) (sym o) in
+      rw (at_place (steps p) x h, e) (row_alike (row_at mid.rows (old.end.number + x)) (λ a. refl) (λ a y. behind_none_before old.end.number y (follow p x a) z.no_places) (A.rows_are x h))
 
   program_tables : Describe new (automaton_of p)
   program_tables = record {
     places_are = places_is ∙ all_places;
     rows_are = λ x h. ⊎_elim (λ e. rw e beginning_row) (λ e. place_row x (omega arith)) (cases_eq x (steps p));
-    labelled_are = λ s h y. ap (λ hs. bit y (get_or hs s 0)) labelled_is ∙ A.labelled_are s h y ∙ rw (z.none_labelled s h, bit_zero y) (behind_none_before old.places y (labelled (automaton_of p) s) z.no_places);
+    labelled_are = λ s h y. ap (λ hs. bit y (get_or hs s 0)) labelled_is ∙ A.labelled_are s h y ∙ rw (z.none_labelled s h, bit_zero y) (behind_none_before old.end.number y (labelled (automaton_of p) s) z.no_places);
     labels_known = label_known p k;
   }
 
 -- What was read, of the words that were read.
-module _ (ws rest : List ℕ) (old mid new : Tables) (part : Part) (z : Empty old) (places_is : new.places ≡ mid.places) (rows_is : new.rows ≡ set mid.rows mid.places part.row) (labelled_is : new.labelled ≡ mid.labelled) (r : ProgramAs (λ p. PartAdded old p mid part) 64 (12 - old.places) ws rest) where
+module _ (ws rest : List ℕ) (old mid new : Tables) (part : Part) (z : Empty old) (places_is : new.end.number ≡ mid.end.number) (rows_is : new.rows ≡ set mid.rows mid.end.number part.row) (labelled_is : new.labelled ≡ mid.labelled) (r : ProgramAs (λ p. PartAdded old p mid part) 64 (12 - old.end.number) ws rest) where
   pub program_described : (p : Program) × (ws ≡ words p ++ rest) × InRange p × Describe new (automaton_of p)
   program_described = (r.0, r.1, rw z.no_places at r.2, program_tables r.0 old mid new part.row z (r.2 known) r.3.1 places_is rows_is labelled_is)
 

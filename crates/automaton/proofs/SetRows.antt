@@ -23,7 +23,7 @@ module _ (n : ℕ) (m : Automaton) (u : ℕ) (old : Row) (h : RowTo n m u old) w
   one_more : (new : Row) → RowTo (suc n) m u new → RowTo (n + 1) m u new
   one_more new r = let e : suc n ≡ n + 1 = omega arith in subst (λ k. RowTo k m u new) e r
 
-  pub with_place : (new : Row) → n < m.tables.places + 1 → bit n u ≡ true → Or old (row_at m.tables.rows n) new → RowTo (n + 1) m u new
+  pub with_place : (new : Row) → n < m.tables.end.number + 1 → bit n u ≡ true → Or old (row_at m.tables.rows n) new → RowTo (n + 1) m u new
   with_place new k b o = one_more new (λ of t.
       let f : ℕ → ℕ → Bool = λ a x. bit x u && of.ends (from_bit of.places x) a in
       let g : ℕ → ℕ → ℕ → Bool = λ a y x. bit x u && of.next (from_bit of.places x) a y in
@@ -38,5 +38,5 @@ module _ (n : ℕ) (m : Automaton) (u : ℕ) (old : Row) (h : RowTo n m u old) w
       row_alike old (λ a. ap (λ c. (c && of.ends (from_bit of.places n) a) || some n (f a)) (sym b)) (λ a y. ap (λ c. (c && of.next (from_bit of.places n) a y) || some n (g a y)) (sym b)) (h of t))
 
   -- All places, and the beginning.
-  pub all_joined : n ≡ m.tables.places + 1 → RowFrom m u old
+  pub all_joined : n ≡ m.tables.end.number + 1 → RowFrom m u old
   all_joined e of t = let k : n ≡ suc of.places = omega (arith, e, t.places_are) in subst (λ i. RowIs (λ a. some i (λ x. bit x u && of.ends (from_bit of.places x) a)) (λ a y. some i (λ x. bit x u && of.next (from_bit of.places x) a y)) old) k (h of t)

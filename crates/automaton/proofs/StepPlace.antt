@@ -38,41 +38,41 @@ labelled_behind n k s y = by y (where_is n y)
     by y (before h) = behind_before n y (labelled (automaton_of (step k)) s) h ∙ ap (λ b. b && eqb k s) (sym (ne_eqb y n (λ e. omega arith)))
     by y (sides.behind z) = let e : ltb z 1 ≡ eqb (n + z) n = grind (arith, nat_tests) in behind_past n z (labelled (automaton_of (step k)) s) ∙ ap (λ b. b && eqb k s) e
 
-module _ (k : ℕ) (old new : Tables) (end row : Row) (b : old.places < 12) (r : length old.rows ≡ 13) (l : length old.labelled ≡ 8) (e : Ending 65535 end) (t : Starting old.places row)
-    (places_is : new.places ≡ old.places + 1) (rows_is : new.rows ≡ set old.rows old.places end)
-    (labelled_is : new.labelled ≡ set old.labelled k (bit_or (get_or old.labelled k 0) (1 * 2 ^ old.places % 4294967296))) where
+module _ (k : ℕ) (old new : Tables) (end row : Row) (b : old.end.number < 12) (r : length old.rows ≡ 13) (l : length old.labelled ≡ 8) (e : Ending 65535 end) (t : Starting old.end.number row)
+    (places_is : new.end.number ≡ old.end.number + 1) (rows_is : new.rows ≡ set old.rows old.end.number end)
+    (labelled_is : new.labelled ≡ set old.labelled k (bit_or (get_or old.labelled k 0) (1 * 2 ^ old.end.number % 4294967296))) where
   -- the set of the new place alone
   abbrev alone : ℕ
-  alone = 1 * 2 ^ old.places % 4294967296
+  alone = 1 * 2 ^ old.end.number % 4294967296
 
-  labels : (s : ℕ) → s < 8 → PlacesAre (λ y. bit y (get_or old.labelled s 0) || behind old.places (labelled (automaton_of (step k)) s) y) (get_or new.labelled s 0)
-  labels s h y = rw (labelled_is, labelled_behind old.places k s y) (⊎_elim same other (cases_eq k s))
+  labels : (s : ℕ) → s < 8 → PlacesAre (λ y. bit y (get_or old.labelled s 0) || behind old.end.number (labelled (automaton_of (step k)) s) y) (get_or new.labelled s 0)
+  labels s h y = rw (labelled_is, labelled_behind old.end.number k s y) (⊎_elim same other (cases_eq k s))
     where
-      same : k ≡ s → bit y (get_or (set old.labelled k (bit_or (get_or old.labelled k 0) alone)) s 0) ≡ (bit y (get_or old.labelled s 0) || (eqb y old.places && eqb k s))
+      same : k ≡ s → bit y (get_or (set old.labelled k (bit_or (get_or old.labelled k 0) alone)) s 0) ≡ (bit y (get_or old.labelled s 0) || (eqb y old.end.number && eqb k s))
       same m =
-          rw (m, get_or-set_same old.labelled s (bit_or (get_or old.labelled s 0) alone) 0 (omega arith), eq-eqb s s refl, one_shl old.places 32 (omega arith))
-          (bit_of_or y (get_or old.labelled s 0) (2 ^ old.places) ∙ ap (λ c. bit y (get_or old.labelled s 0) || c) (bit_power old.places y ∙ sym (and-true (eqb y old.places))))
+          rw (m, get_or-set_same old.labelled s (bit_or (get_or old.labelled s 0) alone) 0 (omega arith), eq-eqb s s refl, one_shl old.end.number 32 (omega arith))
+          (bit_of_or y (get_or old.labelled s 0) (2 ^ old.end.number) ∙ ap (λ c. bit y (get_or old.labelled s 0) || c) (bit_power old.end.number y ∙ sym (and-true (eqb y old.end.number))))
 
-      other : (k ≡ s → ⊥) → bit y (get_or (set old.labelled k (bit_or (get_or old.labelled k 0) alone)) s 0) ≡ (bit y (get_or old.labelled s 0) || (eqb y old.places && eqb k s))
-      other m = rw (get_or-set_other old.labelled k s (bit_or (get_or old.labelled k 0) alone) 0 (λ j. m (sym j)), ne_eqb k s m) (rw (and-false (eqb y old.places)) (sym (or-false (bit y (get_or old.labelled s 0)))))
+      other : (k ≡ s → ⊥) → bit y (get_or (set old.labelled k (bit_or (get_or old.labelled k 0) alone)) s 0) ≡ (bit y (get_or old.labelled s 0) || (eqb y old.end.number && eqb k s))
+      other m = rw (get_or-set_other old.labelled k s (bit_or (get_or old.labelled k 0) alone) 0 (λ j. m (sym j)), ne_eqb k s m) (rw (and-false (eqb y old.end.number)) (sym (or-false (bit y (get_or old.labelled s 0)))))
 
-  rows : (x : ℕ) → x < 1 → RowIs (λ a. eqb x 0) (λ a. behind old.places (λ y. false)) (row_at new.rows (old.places + x))
+  rows : (x : ℕ) → x < 1 → RowIs (λ a. eqb x 0) (λ a. behind old.end.number (λ y. false)) (row_at new.rows (old.end.number + x))
   rows x h =
       let z : x ≡ 0 = omega arith in
-      let i : old.places + x ≡ old.places = omega arith in
-      let at : row_at new.rows (old.places + x) ≡ end = ap (λ rs. row_at rs (old.places + x)) rows_is ∙ ap (row_at (set old.rows old.places end)) i ∙ row_put old.rows old.places end (omega arith) in
-      subst (RowIs (λ a. eqb x 0) (λ a. behind old.places (λ y. false))) (sym at)
-      (row_alike end (λ a. sym (eq-eqb x 0 z)) (λ a y. sym (behind_none old.places y)) (ending_is (λ a. true) 65535 end always_atoms e))
+      let i : old.end.number + x ≡ old.end.number = omega arith in
+      let at : row_at new.rows (old.end.number + x) ≡ end = ap (λ rs. row_at rs (old.end.number + x)) rows_is ∙ ap (row_at (set old.rows old.end.number end)) i ∙ row_put old.rows old.end.number end (omega arith) in
+      subst (RowIs (λ a. eqb x 0) (λ a. behind old.end.number (λ y. false))) (sym at)
+      (row_alike end (λ a. sym (eq-eqb x 0 z)) (λ a y. sym (behind_none old.end.number y)) (ending_is (λ a. true) 65535 end always_atoms e))
 
   pub step_added : Added (step k) old new row
   step_added = record {
     places_are = places_is;
-    as_many_rows = ap length rows_is ∙ length-set old.rows old.places end;
+    as_many_rows = ap length rows_is ∙ length-set old.rows old.end.number end;
     row_is = record {
       ends_are = (λ a. ap (bit (a % 16)) t.0 ∙ bit_zero (a % 16), λ a h. ap (bit a) t.0 ∙ bit_zero a);
-      next_are = λ a y. ap (bit y) (t.1 (a % 16) (known_atom a)) ∙ bit_power old.places y ∙ sym (one_behind old.places y);
+      next_are = λ a y. ap (bit y) (t.1 (a % 16) (known_atom a)) ∙ bit_power old.end.number y ∙ sym (one_behind old.end.number y);
     };
     rows_are = rows;
-    rows_kept = λ i h. ap (λ rs. row_at rs i) rows_is ∙ row_kept old.rows old.places i end (λ m. omega arith);
+    rows_kept = λ i h. ap (λ rs. row_at rs i) rows_is ∙ row_kept old.rows old.end.number i end (λ m. omega arith);
     labelled_are = labels;
   }

@@ -23,9 +23,9 @@ abbrev pub Unread : List ℕ → Fault → Type 0
 Unread ws f = ProgramFault max_depth max_steps ws f
 
 pub record SameTables (m m' : Tables) : Type 0 where
-  pub places_same : m.places ≡ m'.places
-  pub ends_same : (x : ℕ) → x ≤ m.places → (row_at m.rows x).ends ≡ (row_at m'.rows x).ends
-  pub next_same : (x a : ℕ) → x ≤ m.places → a < 2 ^ test_count → slice_index (row_at m.rows x).next a ≡ slice_index (row_at m'.rows x).next a
+  pub places_same : m.end.number ≡ m'.end.number
+  pub ends_same : (x : ℕ) → x ≤ m.end.number → (row_at m.rows x).ends ≡ (row_at m'.rows x).ends
+  pub next_same : (x a : ℕ) → x ≤ m.end.number → a < 2 ^ test_count → slice_index (row_at m.rows x).next a ≡ slice_index (row_at m'.rows x).next a
   pub labelled_same : (s : ℕ) → s < step_count → slice_index m.labelled s ≡ slice_index m'.labelled s
 
 -- The answer is exact: words have one automaton only, or one fault, and never both.

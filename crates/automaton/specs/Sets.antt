@@ -1,4 +1,5 @@
 -- Sets of places are the states of the automaton's acceptor. This is said of each automaton that the tables describe.
+--     OfEach      this is true of each of them
 --     Begins      the set of the beginning alone: the bit after the last place's
 --     RowFrom     what may come next from somewhere in the set u
 --     AcceptsAt   the atoms at which the set u accepts
@@ -12,14 +13,17 @@ use Rattle.automaton.specs.Atoms.{AtomsAre}
 use Rattle.automaton.specs.Rows.{RowIs}
 use Rattle.automaton.specs.Tables.{Describe}
 
+abbrev pub OfEach : Automaton → (spec.Automaton → Type 0) → Type 0
+OfEach m P = (of : spec.Automaton) → Describe m.tables of → P of
+
 abbrev pub Begins : Automaton → ℕ → Type 0
-Begins m u = (u ≡ 2 ^ m.tables.places) × ((of : spec.Automaton) → Describe m.tables of → u ≡ (acceptor_of of).begins)
+Begins m u = (u ≡ 2 ^ m.tables.end.number) × OfEach m (λ of. u ≡ (acceptor_of of).begins)
 
 abbrev pub RowFrom : Automaton → ℕ → Row → Type 0
-RowFrom m u row = (of : spec.Automaton) → Describe m.tables of → RowIs (λ a. from_some of.places u (λ r. of.ends r a)) (λ a y. from_some of.places u (λ r. of.next r a y)) row
+RowFrom m u row = OfEach m (λ of. RowIs (λ a. from_some of.places u (λ r. of.ends r a)) (λ a y. from_some of.places u (λ r. of.next r a y)) row)
 
 abbrev pub AcceptsAt : Automaton → ℕ → ℕ → Type 0
-AcceptsAt m u atoms = (of : spec.Automaton) → Describe m.tables of → AtomsAre ((acceptor_of of).accepts u) atoms
+AcceptsAt m u atoms = OfEach m (λ of. AtomsAre ((acceptor_of of).accepts u) atoms)
 
 abbrev pub NextIs : Automaton → ℕ → ℕ → ℕ → ℕ → Type 0
-NextIs m u a s v = (of : spec.Automaton) → Describe m.tables of → v ≡ (acceptor_of of).next u a s
+NextIs m u a s v = OfEach m (λ of. v ≡ (acceptor_of of).next u a s)

@@ -13,7 +13,7 @@ abbrev pub labelled : spec.Automaton → ℕ → ℕ → Bool
 labelled of s y = nat_lt y of.places && of.label y == s
 
 pub record Describe (m : Tables) (of : spec.Automaton) : Type 0 where
-  pub places_are : m.places ≡ of.places
+  pub places_are : m.end.number ≡ of.places
   pub rows_are : (x : ℕ) → x ≤ of.places → RowIs (of.ends (from_bit of.places x)) (of.next (from_bit of.places x)) (row_at m.rows x)
   pub labelled_are : (s : ℕ) → s < step_count → PlacesAre (labelled of s) (slice_index m.labelled s)
   pub labels_known : (y : ℕ) → y < of.places → of.label y < step_count

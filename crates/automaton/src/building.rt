@@ -15,7 +15,7 @@ impl Tables {
         ensures { Empty result }
     {
         Tables {
-            places: 0,
+            end: Place { number: 0 },
             rows: [Row::ending(0); ROWS],
             labelled: [0; STEP_SETS],
         }
@@ -23,10 +23,11 @@ impl Tables {
 
     // Lets the next row follow each place from `from` up to `to`, `to` left out.
     fn lead_on(&mut self, from: Place, to: Place, next: &Row)
-        requires { (from.0 ≤ to.0) × (to.0 ≤ max_steps) }
-        ensures { LedOn from.0 to.0 self.old next.now self.new }
+        requires { from.number ≤ to.number }
+        ensures { LedOn from.number to.number self.old next.now self.new }
     {
-        lead_all(&mut self.rows[from.0 as usize..to.0 as usize], next);
+        let led = from.number as usize..to.number as usize;
+        lead_all(&mut self.rows[led], next);
     }
 }
 
@@ -37,29 +38,29 @@ impl Builder for Tables {
 
     ghost added = { PartAdded };
 
-    ghost room_of = { λ m. max_steps - m.places };
+    ghost room_of = { λ m. max_steps - m.end.number };
 
     fn room(&self) -> u32 {
-        MAX_STEPS - self.places
+        MAX_STEPS - self.end.number
     }
 
     // A guard has no places.
     fn guard(&mut self, test: Atoms) -> Part {
         Part {
-            from: Place(self.places),
+            from: self.end,
             row: Row::ending(test.0),
         }
     }
 
     // A step is a place: at every atom it may come first, and past it the program may end.
     fn step(&mut self, step: Step) -> Part {
-        let place = self.places;
-        self.rows[place as usize] = Row::ending(ALL);
-        self.labelled[step.0 as usize] |= 1u32 << place;
-        self.places = place + 1;
+        let place = self.end;
+        self.rows[place.number as usize] = Row::ending(ALL);
+        self.labelled[step.0 as usize] |= 1u32 << place.number;
+        self.end.number += 1;
         Part {
-            from: Place(place),
-            row: Row::starting(Place(place)),
+            from: place,
+            row: Row::starting(place),
         }
     }
 
@@ -80,13 +81,12 @@ impl Builder for Tables {
 
     fn star(&mut self, once: Part) -> Part {
         let again = once.row.or_nothing();
-        let to = Place(self.places);
-        self.lead_on(once.from, to, &again);
+        self.lead_on(once.from, self.end, &again);
         Part {
             from: once.from,
             row: again,
         }
     }
 
-    ghost steps_counted = { λ old new p part h. Prim.omega (arith, h.1.places_are, new.few) };
+    ghost steps_counted = { λ old new p part h. Prim.omega (arith, h.1.places_are, new.end.within) };
 }

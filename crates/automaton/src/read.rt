@@ -16,7 +16,7 @@ impl Automaton {
     {
         let mut tables = Tables::new();
         let (beginning, rest) = read_program(&mut tables, words, MAX_DEPTH)?;
-        let at = tables.places as usize;
+        let at = tables.end.number as usize;
         tables.rows[at] = beginning.row;
         Ok((Automaton { tables }, rest))
     }

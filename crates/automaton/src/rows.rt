@@ -1,13 +1,11 @@
 // What may come next from somewhere in a program.
-ghost use Rattle.std.specs.Prelude.{◌<◌};
-ghost use Rattle.kat.specs.Programs.{max_steps};
 ghost use Rattle.automaton.specs.Rows.{Ending, Joined, Led, Or, OrNothing, Starting, Then};
 
 use crate::atoms::{ALL, ATOMS};
 use crate::tables::Place;
 
 // The atoms at which the program may end, as a bit for each, and at each atom the places that may come next, likewise.
-#[derive(Clone, Copy)]
+#[derive(Clone, Copy, PartialEq, Eq, Debug)]
 pub struct Row {
     pub ends: u32,
     pub next: [u32; ATOMS],
@@ -26,12 +24,11 @@ impl Row {
 
     // Only this place comes next, at every atom, and it may not end.
     pub(crate) fn starting(place: Place) -> Row
-        requires { place.0 < max_steps }
-        ensures { Starting place.0 result }
+        ensures { Starting place.number result }
     {
         Row {
             ends: 0,
-            next: [1u32 << place.0; ATOMS],
+            next: [1u32 << place.number; ATOMS],
         }
     }
 
@@ -71,6 +68,7 @@ fn joined(one: &[u32; ATOMS], other: &[u32; ATOMS], atoms: u32) -> [u32; ATOMS]
     ensures { Joined one.now other.now atoms result }
 {
     let mut all = *one;
+    // the other is read by index: through a zip of both, the proof has no index to go by
     for (atom, places) in all.iter_mut().enumerate() {
         if (atoms >> atom) & 1 == 1 {
             *places |= other[atom];

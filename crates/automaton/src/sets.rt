@@ -11,7 +11,7 @@ impl Automaton {
     pub fn beginning(&self) -> u32
         ensures { Begins self.now result }
     {
-        1u32 << self.tables.places
+        1u32 << self.tables.end.number
     }
 
     // What may come next from somewhere in the set.
@@ -19,7 +19,7 @@ impl Automaton {
         ensures { RowFrom self.now set result }
     {
         let mut row = Row::ending(0);
-        let places = self.tables.places as usize;
+        let places = self.tables.end.number as usize;
         for (bit, next) in self.tables.rows[..=places].iter().enumerate() {
             if (set >> bit) & 1 == 1 {
                 row = row.or(next);

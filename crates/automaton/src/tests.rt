@@ -67,9 +67,9 @@ fn automaton_of(rt: &impl Abort, words: &[u32]) -> Result<Automaton, Fail> {
     Ok(automaton)
 }
 
+// The parts of a row are parameters: to name the fields at each call would be no plainer.
 fn row_is(rt: &impl Abort, row: Row, ends: u32, next: &[u32; ATOMS]) {
-    assert_eq!(rt; row.ends, ends);
-    assert_eq!(rt; row.next, *next);
+    assert_eq!(rt; row, Row { ends, next: *next });
 }
 
 // A set is passed by value: the checker does not cover a borrow of an element where the struct has a ghost field.
@@ -86,7 +86,7 @@ fn size(rt: HostRuntime) {
 fn guards(rt: HostRuntime) -> Result<(), Fail> {
     for (words, atoms) in GUARDS {
         let automaton = automaton_of(&rt, words)?;
-        assert_eq!(rt; automaton.tables.places, 0);
+        assert_eq!(rt; automaton.tables.end.number, 0);
         row_is(&rt, automaton.tables.rows[0], atoms, &NONE);
     }
     Ok(())
@@ -95,7 +95,7 @@ fn guards(rt: HostRuntime) -> Result<(), Fail> {
 #[test]
 fn a_loop(rt: HostRuntime) -> Result<(), Fail> {
     let automaton = automaton_of(&rt, LOOP)?;
-    assert_eq!(rt; automaton.tables.places, 1);
+    assert_eq!(rt; automaton.tables.end.number, 1);
     row_is(&rt, automaton.tables.rows[0], 0x5555, &WHERE_0);
     row_is(&rt, automaton.tables.rows[1], 0x5555, &WHERE_0);
     set_is(&rt, automaton.tables.labelled[1], 1);
@@ -106,7 +106,7 @@ fn a_loop(rt: HostRuntime) -> Result<(), Fail> {
 #[test]
 fn a_loop_in_a_loop(rt: HostRuntime) -> Result<(), Fail> {
     let automaton = automaton_of(&rt, &nest(rt.alloc())?)?;
-    assert_eq!(rt; automaton.tables.places, 2);
+    assert_eq!(rt; automaton.tables.end.number, 2);
     row_is(&rt, automaton.tables.rows[0], 0x0505, &WHERE_2_OR_0);
     row_is(&rt, automaton.tables.rows[1], 0x0505, &WHERE_2_OR_0);
     row_is(&rt, automaton.tables.rows[2], 0x5555, &WHERE_0);
@@ -130,7 +130,7 @@ fn never_and_a_step(rt: HostRuntime) -> Result<(), Fail> {
 #[test]
 fn twelve_steps(rt: HostRuntime) -> Result<(), Fail> {
     let automaton = automaton_of(&rt, &steps(rt.alloc(), 12)?)?;
-    assert_eq!(rt; automaton.tables.places, 12);
+    assert_eq!(rt; automaton.tables.end.number, 12);
     for (place, row) in automaton.tables.rows[..11].iter().enumerate() {
         row_is(&rt, *row, 0, &[2u32 << place; ATOMS]);
     }
@@ -198,8 +198,9 @@ fn words_behind_and_faults(rt: HostRuntime) -> Result<(), Fail> {
     let Ok((automaton, rest)) = Automaton::read(&[1, 7, 9, 9, 9]) else {
         return Err(Fail::new("no program"));
     };
-    assert_eq!(rt; automaton.tables.places, 1);
+    assert_eq!(rt; automaton.tables.end.number, 1);
     assert_eq!(rt; rest.len(), 3);
+    assert_eq!(rt; rest, [9, 9, 9].as_slice());
     let Err(fault) = Automaton::read(&[2, 1, 0, 1, 8, 0]) else {
         return Err(Fail::new("a program"));
     };

@@ -5,14 +5,8 @@ ghost use Rattle.compare.specs.declared.answers.Why.TheVariants as why;
 ghost use Rattle.compare.specs.Answering.{AnswerTo, Answered, LineAnswered, why_of_stop, why_text};
 
 use lines::{Fault, Line, Stop};
-use reader::{MAX_WORDS, Reason, Refusal, read_pair};
+use reader::{MAX_WORDS, Refusal, TOO_LONG, read_pair};
 use std::fmt;
-
-// A line keeps as many numbers as two programs may have words, so that more of them are too many.
-const TOO_LONG: Refusal = Refusal {
-    reason: Reason::TooLong,
-    at: MAX_WORDS,
-};
 
 // Why a line is no two programs: it has no words, its bytes are no numbers from some column on, or as the reader says.
 #[derive(Clone, Copy)]
@@ -34,6 +28,7 @@ impl From<Refusal> for Why {
     }
 }
 
+// A line keeps as many numbers as two programs may have words, so that more of them are too many.
 impl From<Stop> for Why {
     ghost from_gives = { λ s w. w ≡ why_of_stop s.fault s.column };
 

@@ -37,33 +37,34 @@ fn write_answer<W: Write>(answer: Answer, out: &mut W) -> io::Result<()>
     }
 }
 
-// Reads the next bytes, and answers each line that ends in them.
-fn answer_bytes<W: Write>(
-    bytes: &[u8],
-    line: &mut Line<MAX_WORDS>,
-    out: &mut W,
-) -> Result<(), Trouble> {
-    for byte in bytes {
-        line.push(*byte)?;
-        if *byte == b'\n' {
-            write_answer(answer_line(line), out).map_err(Trouble::Output)?;
-            line.clear();
-        }
-    }
-    out.flush().map_err(Trouble::Output)
+// A line as far as it has come, and where its answer goes.
+#[derive(Drop)]
+struct Answering<'a, W> {
+    line: Line<MAX_WORDS>,
+    out: &'a mut W,
 }
 
-// Goes on with as much of the input as there is at hand, and says how much that was: nothing at its end.
-fn answer_some<R: BufRead, W: Write>(
-    input: &mut R,
-    line: &mut Line<MAX_WORDS>,
-    out: &mut W,
-) -> Result<usize, Trouble> {
-    let bytes = input.fill_buf().map_err(Trouble::Input)?;
-    let n = bytes.len();
-    answer_bytes(bytes, line, out)?;
-    input.consume(n);
-    Ok(n)
+impl<W: Write> Answering<'_, W> {
+    // Reads the next bytes, and answers each line that ends in them.
+    fn answer_bytes(&mut self, bytes: &[u8]) -> Result<(), Trouble> {
+        for byte in bytes {
+            self.line.push(*byte)?;
+            if *byte == b'\n' {
+                write_answer(answer_line(&self.line), self.out).map_err(Trouble::Output)?;
+                self.line.clear();
+            }
+        }
+        self.out.flush().map_err(Trouble::Output)
+    }
+
+    // Goes on with as much of the input as there is at hand, and says how much that was: nothing at its end.
+    fn answer_some<R: BufRead>(&mut self, input: &mut R) -> Result<usize, Trouble> {
+        let bytes = input.fill_buf().map_err(Trouble::Input)?;
+        let n = bytes.len();
+        self.answer_bytes(bytes)?;
+        input.consume(n);
+        Ok(n)
+    }
 }
 
 // Answers each line of the input, and writes the answers out before it waits for more input. It needs no more memory
@@ -73,16 +74,19 @@ pub fn answer_lines<R: BufRead, W: Write>(
     out: &mut W,
     heap: Global,
 ) -> Result<(), Trouble> {
-    let mut line = Line::new(heap);
+    let mut answering = Answering {
+        line: Line::new(heap),
+        out,
+    };
     // counted, since each loop is proved to end and nothing is known of how long the input is
     for _ in 0..u64::MAX {
-        if answer_some(input, &mut line, out)? == 0 {
+        if answering.answer_some(input)? == 0 {
             break;
         }
     }
     // the last line may have no newline
-    if line.is_empty() {
+    if answering.line.is_empty() {
         return Ok(());
     }
-    answer_bytes(b"\n", &mut line, out)
+    answering.answer_bytes(b"\n")
 }

@@ -37,10 +37,7 @@ pub fn command_of(mut args: Args) -> Result<Command, Misuse> {
     let command = match option.as_str() {
         "--help" | "-h" => Command::Help,
         "--version" => Command::Version,
-        "--words" => Command::Words(match args.next() {
-            Some(name) => Source::try_from(name)?,
-            None => Source::Stdin,
-        }),
+        "--words" => Command::Words(args.next().map_or(Ok(Source::Stdin), Source::try_from)?),
         _ => return Err(Misuse::Unknown(option)),
     };
     match args.next() {

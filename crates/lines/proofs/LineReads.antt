@@ -1,10 +1,10 @@
 -- What a line has read, byte by byte, and what a newline then leaves of it.
-use Rattle.std.proofs.Common.{◌≡◌, ℕ, Bool, true, false, cond, ltb, ◌↔◌, List, [], ◌∷◌, ◌++◌, length, sym, refl, ap, ◌∙◌, arith}
+use Rattle.std.proofs.Common.{◌≡◌, ℕ, Bool, true, false, cond, ltb, ◌⊎◌, ◌↔◌, List, [], ◌∷◌, ◌++◌, length, sym, refl, ap, ◌∙◌, inl, inr, arith}
 use Rattle.lines.specs.declared.Fault.{Fault}
 use Rattle.lines.specs.declared.Fault.TheVariants.{TooMany}
 use Rattle.lines.specs.declared.State.{State}
 use Rattle.lines.specs.declared.State.TheVariants.{Gap, Number, Stopped}
-use Rattle.lines.specs.Scanning.{Scan, Reading, started, after, scanned, HasRead, IsLine}
+use Rattle.lines.specs.Scanning.{Scan, Reading, started, after, scanned, HasRead, Complete, IsLine}
 use Rattle.lines.proofs.SpelledRead.{spelled_read}
 use Rattle.lines.proofs.ReadSpelled.{lines_are_read}
 
@@ -15,6 +15,10 @@ scanned_append most s (b ∷ bs) cs = scanned_append most (after most s b) bs cs
 -- One more byte is read behind the others.
 pub reads_more : (most : ℕ) (s s' : Scan) (b : ℕ) → s' ≡ after most s b → (bs : List ℕ) → s ≡ scanned most started bs → s' ≡ scanned most started (bs ++ b ∷ [])
 reads_more most s s' b e bs h = e ∙ ap (λ s. after most s b) h ∙ sym (scanned_append most started bs (b ∷ []))
+
+pub complete : (s : Scan) (ns : List ℕ) → (s.state ≡ Gap) ⊎ ((n : ℕ) × (s.state ≡ Number n)) → ns ≡ s.numbers → Complete s ns
+complete s ns (inl g) e = rw g e
+complete s ns (inr p) e = rw p.1 e
 
 kept_number : (fits : Bool) (ns : List ℕ) (m n : ℕ) → (cond {A = Scan} fits (record { numbers = ns ++ m ∷ []; state = Gap }) (record { numbers = ns; state = Stopped TooMany })).state ≡ Number n → ⊥
 kept_number true ns m n e = let z : ◌≡◌ {A = ℕ} 0 1 = cc in omega arith
@@ -39,13 +43,12 @@ module _ (most : ℕ) (bs : List ℕ) (l : Reading) (h : HasRead most (bs ++ 10 
       omega arith
 
   -- and where it did not, the numbers that are complete are the line's.
-  pub is_line : (xs : List ℕ) (s : State) → l.scan.state ≡ s → ((f : Fault) → s ≡ Stopped f → ⊥) → xs ≡ l.scan.numbers → (ns : List ℕ) → IsLine most bs ns ↔ (ns ≡ xs)
-  is_line xs Gap g goes e ns = (λ i. sym (e ∙ ap (λ s. s.numbers) (line_read ns i)), λ q. lines_are_read most bs ns (sym h ∙ ended ns q))
+  pub is_line : (xs : List ℕ) → (l.scan.state ≡ Gap) ⊎ ((n : ℕ) × (l.scan.state ≡ Number n)) → xs ≡ l.scan.numbers → (ns : List ℕ) → IsLine most bs ns ↔ (ns ≡ xs)
+  is_line xs (inl g) e ns = (λ i. sym (e ∙ ap (λ s. s.numbers) (line_read ns i)), λ q. lines_are_read most bs ns (sym h ∙ ended ns q))
     where
       ended : (ns : List ℕ) → ns ≡ xs → l.scan ≡ record { numbers = ns; state = Gap }
       ended ns q = λ j. record { numbers = sym (q ∙ e) j; state = g j }
-  is_line xs (Number n) g goes e ns = absurd (none_pending most before.numbers before.state n (sym (ap (λ s. s.state) (h ∙ scanned_append most started bs (10 ∷ []))) ∙ g))
+  is_line xs (inr p) e ns = absurd (none_pending most before.numbers before.state p.0 (sym (ap (λ s. s.state) (h ∙ scanned_append most started bs (10 ∷ []))) ∙ p.1))
     where
       before : Scan
       before = scanned most started bs
-  is_line xs (Stopped f) g goes e ns = absurd (goes f refl)

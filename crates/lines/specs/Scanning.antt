@@ -1,6 +1,6 @@
 -- How a line is read, byte by byte.
 --     Scan      the numbers that are complete, and where reading stands
---     Reading   what there is of a line: the scan, how many bytes came, and room for how many numbers
+--     Reading   what there is of a line: the scan, how many bytes came until it stopped, and room for how many numbers
 --     state_after
 --               where reading stands after one byte more
 --     after     what a byte makes of a scan that keeps at most so many numbers
@@ -9,7 +9,6 @@
 --     LineRead  what it leaves of the bytes of a line, and a newline, is what they spell
 use Rattle.std.specs.Prelude.{◌≡◌, ℕ, ◌+◌, ◌-◌, ◌*◌, ◌^◌, ◌<◌, ◌≤◌, min, cond, true, ◌↔◌, List, [], ◌∷◌, ◌++◌, length, Option, Some, None, Ok, Err, Result, nat_lt}
 use Rattle.std.specs.Borrow.{Bor}
-use Rattle.lines.specs.declared.Fault.{Fault}
 use Rattle.lines.specs.declared.Fault.TheVariants.{NotNumber, TooLarge, TooMany}
 use Rattle.lines.specs.declared.State.{State}
 use Rattle.lines.specs.declared.State.TheVariants.{Gap, Number, Stopped}
@@ -93,10 +92,11 @@ pub record NeedsMemory (most : ℕ) (l : Reading) (b : ℕ) : Type 0 where
   pub kept : length l.scan.numbers < most
   pub full : l.capacity ≤ length l.scan.numbers
 
--- Reading has not stopped, and these are the numbers that are complete; or it has, here.
-abbrev pub Complete : Reading → List ℕ → Type 0
-Complete l ns = ((f : Fault) → l.scan.state ≡ Stopped f → ⊥) × (ns ≡ l.scan.numbers)
+-- Reading has not stopped, and these are the numbers that are complete.
+abbrev pub Complete : Scan → List ℕ → Type 0
+Complete s ns = elim s.state [ Gap ↦ ns ≡ s.numbers | Number n ↦ ns ≡ s.numbers | Stopped f ↦ ⊥ ]
 
+-- Reading has stopped here.
 abbrev pub StoppedAt : Reading → Stop → Type 0
 StoppedAt l s = (l.scan.state ≡ Stopped s.fault) × (s.column ≡ l.column)
 

@@ -16,14 +16,15 @@ pub enum Fault {
 }
 
 // The byte at which reading stopped, counted from 1, and why.
+// A type of its own, so that a column is not taken for the index of a word.
 #[derive(Clone, Copy, PartialEq, Eq, Debug)]
 pub struct Stop {
     pub fault: Fault,
     pub column: usize,
 }
 
-// Where reading stands: between numbers, in one that is worth so much, or where it stopped. As a `Result` of an `Option`
-// it took a third more instructions for a byte.
+// Where reading stands: between numbers, in one that is worth so much, or where it stopped.
+// As a `Result` of an `Option` it was slower than plain Rust, and as this it is faster.
 #[derive(Clone, Copy)]
 pub enum State {
     Gap,
@@ -32,7 +33,7 @@ pub enum State {
 }
 
 impl State {
-    // Where it stands after one byte more, and the number that has ended with it, if one has.
+    // Where it stands after one byte more, and the number that has ended with it, if one has; there may be no room for that.
     fn after(self, byte: u8) -> (State, Option<u32>)
         ensures { result ≡ (state_after self byte, number_ended self byte) }
     {
@@ -85,7 +86,7 @@ impl<const MOST: usize> Line<MOST> {
         }
     }
 
-    // One byte more; where there is no memory for a number, nothing changes.
+    // One byte more; where there is no memory for a number, nothing changes but how much room there is.
     pub fn push(&mut self, byte: u8) -> Result<(), AllocError>
         ensures read { MatchResult result (λ _. Pushed MOST self.old byte self.new) (λ _. Same self.old self.new) }
         ensures no_memory { OnErr result (NeedsMemory MOST self.old byte) }
@@ -109,7 +110,7 @@ impl<const MOST: usize> Line<MOST> {
 
     // The numbers that are complete, or where reading stopped. After a newline these are the numbers of the line before it.
     pub fn numbers(&self) -> Result<&[u32], Stop>
-        ensures value { MatchResult result (λ x. Complete self.now x.now) (StoppedAt self.now) }
+        ensures value { MatchResult result (λ x. Complete self.now.scan x.now) (StoppedAt self.now) }
         ensures reads { (bs : List ℕ) → HasRead MOST (bs ++ 10 ∷ []) self.now → LineRead MOST bs result }
     {
         match self.state {
@@ -117,7 +118,7 @@ impl<const MOST: usize> Line<MOST> {
                 fault,
                 column: self.column,
             }),
-            _ => Ok(&self.numbers),
+            State::Gap | State::Number(_) => Ok(&self.numbers),
         }
     }
 

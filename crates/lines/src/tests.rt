@@ -35,6 +35,7 @@ const READ: [(&str, &[u32]); 5] = [
     ("000 0007", &[0, 7]),
 ];
 
+// Faults and columns, which to name in each line would be no plainer.
 const STOPPED: [(&str, Fault, usize); 4] = [
     ("1 x", Fault::NotNumber, 3),
     ("-1", Fault::NotNumber, 1),

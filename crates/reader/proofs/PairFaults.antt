@@ -1,5 +1,5 @@
 -- Two programs, one after the other: the frames of the first and of the second, and what is true of words that are refused.
-use Rattle.std.proofs.Common.{◌≡◌, ℕ, ◌+◌, ◌-◌, ◌<◌, ◌≤◌, List, [], ◌++◌, length, sym, refl, ap, ◌∙◌, append_assoc, append-nil, arith, length-append, length-drop, length-take, Ok, Err, Result, MatchResult}
+use Rattle.std.proofs.Common.{◌≡◌, ℕ, ◌-◌, ◌<◌, ◌≤◌, List, [], ◌++◌, length, sym, refl, ap, ◌∙◌, append_assoc, append-nil, arith, length-append, length-drop, length-take, Ok, Err, Result, MatchResult}
 use lib.Seq.{take-append_seam, drop-append_seam}
 use Rattle.std.specs.Result.{IsErrAnd}
 use Rattle.std.proofs.lemmas.Result.{err_from_is_err_and}
@@ -43,9 +43,9 @@ second_of_pair p h = record {
       (b.1, more, o.1, λ l x. x.1);
 }
 
--- The words begin with a program in range, of whose room for steps so much is left.
+-- The words begin with a program in range of so many steps.
 abbrev Read : List ℕ → List ℕ → ℕ → Type 0
-Read ws rest left = ProgramAs (λ p. steps p + left ≡ 12) 64 12 ws rest
+Read ws rest n = ProgramAs (λ p. n ≡ steps p) 64 12 ws rest
 
 -- What is met inside a pair is told of it.
 told : (u v : List ℕ) (why : Reason) → Met pair_words PairKeeps u v why → Told u v why
@@ -61,14 +61,14 @@ told u v LeftOver m = absurd m
 pub first_fails : (s : List ℕ) (f : Fault) → ProgramFault 64 12 s f → PairFault s f
 first_fails s f x = let m = fault_in first_of_pair s s f refl x in (m.0, m.1, m.2, m.3, told m.0 m.1 f.reason m.4)
 
-pub second_fails : (s second : List ℕ) (left : ℕ) (f : Fault) → Read s second left → ProgramFault 64 12 second f → PairFault s f
-second_fails s second left f r x =
+pub second_fails : (s second : List ℕ) (n : ℕ) (f : Fault) → Read s second n → ProgramFault 64 12 second f → PairFault s f
+second_fails s second n f r x =
     let m = fault_in (second_of_pair r.0 r.2) s second f r.1 x in
     (m.0, m.1, m.2, m.3, told m.0 m.1 f.reason m.4)
 
 -- and words behind both are left over.
-pub left_over : (s second rest : List ℕ) (left left' : ℕ) → Read s second left → Read second rest left' → 0 < length rest → PairFault s (record { reason = LeftOver; left = length rest })
-left_over s second rest left left' r q h =
+pub left_over : (s second rest : List ℕ) (n n' : ℕ) → Read s second n → Read second rest n' → 0 < length rest → PairFault s (record { reason = LeftOver; left = length rest })
+left_over s second rest n n' r q h =
     (words r.0 ++ words q.0, rest, cc (r.1, q.1, append_assoc (words r.0) (words q.0) rest), refl, (h, (r.0, q.0), refl, λ l. (r.2 l, q.2 l)))
 
 -- Words that two programs begin are not themselves two programs, unless nothing follows.

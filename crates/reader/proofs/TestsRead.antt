@@ -1,7 +1,7 @@
 -- What is read of a test, and what is met in it, from what was read of its parts.
 use Rattle.std.proofs.Common.{◌≡◌, ℕ, ◌-◌, ◌<◌, ◌⊎◌, List, ◌∷◌, refl, inl, inr, arith}
 use Rattle.kat.specs.Programs as terms
-use Rattle.kat.specs.Programs.{always, never, test, both, any, opposite, test_count, test_depth, KnownTest, Limit, known, shallow, few}
+use Rattle.kat.specs.Programs.{both, any, opposite}
 use Rattle.reader.specs.declared.refusals.Fault.{Fault}
 use Rattle.reader.specs.declared.heads.TestHead.{TestHead}
 use Rattle.reader.specs.declared.heads.TestHead.TheVariants.{Both, Any, Opposite}

@@ -26,7 +26,7 @@ pub enum Head {
     Star,
 }
 
-// The beginning of a test, which has other codes and other parts than a program, and no steps. What follows is one or two tests behind the last three.
+// The beginning of a test. What follows is one or two tests behind the last three.
 #[derive(Clone, Copy)]
 pub enum TestHead {
     Always,
@@ -87,6 +87,7 @@ pub fn head_of(words: &[u32], depth: u32, steps: u32) -> Result<(Head, &[u32]), 
 }
 
 // The head of the test that the words begin with, and what follows it, where there is room for so many levels.
+// Another grammar than that of programs, with other codes and parts and no steps: a generic head would hold both tables.
 pub fn test_head_of(words: &[u32], depth: u32) -> Result<(TestHead, &[u32]), Fault>
     ensures { MatchResult result (λ x. TestHeadIn depth words.now x.0 x.1.now) (TestHeadFault depth words.now) }
 {

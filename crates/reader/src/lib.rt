@@ -10,7 +10,7 @@ mod room;
 
 pub use builders::{Builder, TestValue};
 pub use heads::{Head, STEPS, Step, TESTS, TestHead, head_of, test_head_of};
-pub use pairs::{MAX_DEPTH, MAX_STEPS, MAX_WORDS, Pair, read_pair};
+pub use pairs::{MAX_DEPTH, MAX_STEPS, MAX_WORDS, Pair, TOO_LONG, read_pair};
 pub use parts::{read_program, read_test};
 pub use refusals::{Fault, Reason, Refusal};
 

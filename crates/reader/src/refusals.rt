@@ -24,6 +24,7 @@ pub struct Refusal {
 }
 
 // The same inside a part of the words: a reason, and how many words are left, that at which it was met included.
+// A type of its own, so that a number of words left is not taken for an index; and no slice, as in `Pair`.
 #[derive(Clone, Copy)]
 pub struct Fault {
     pub reason: Reason,

@@ -4,6 +4,7 @@ use std::alloc::{AllocError, Global};
 use std::process::Abort;
 use std::test::Fail;
 
+// The parts of an answer are parameters: to name the fields at each call would be no plainer.
 fn reads(rt: &impl Abort, words: &[u32], second: usize, first_steps: u32, second_steps: u32) {
     assert_eq!(rt;
         read_pair(words),

@@ -5,12 +5,12 @@ use Rattle.automaton.proofs.automata.Automaton.read.Goals as goal
 
 pub invariant_of-result : goal.invariant_of-result
 invariant_of-result c =
-    let d = program_described _ _ _ _ _ _ c.new-tables.ensures refl refl refl c.in_ok-beginning.ensures in
+    let d = program_described _ _ _ _ _ c.in_ok-beginning.beginning c.new-tables.ensures refl refl refl c.in_ok-beginning.ensures in
     record { of_program = ∣ (d.0, d.2, d.3) ∣₁ }
 
 pub returns-clause-answer : goal.returns-clause-answer
 returns-clause-answer c =
-    let d = program_described _ _ _ _ _ _ c.new-tables.ensures refl refl refl c.in_ok-beginning.ensures in
+    let d = program_described _ _ _ _ _ c.in_ok-beginning.beginning c.new-tables.ensures refl refl refl c.in_ok-beginning.ensures in
     program_read _ _ _ d
 
 pub returns-in_err-beginning-clause-answer : goal.returns-in_err-beginning-clause-answer
