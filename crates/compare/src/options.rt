@@ -1,7 +1,8 @@
 // What the command line asks for.
-ghost use Rattle.std.specs.Prelude.{Some};
+ghost use Rattle.std.specs.Prelude.{Some, drop, MatchResult};
+ghost use Rattle.std.specs.Vec.Iter.{into_iter_items};
 ghost use Rattle.compare.specs.Messages.{misuse_text, source_text};
-ghost use Rattle.compare.specs.CommandLine.{NamedSource};
+ghost use Rattle.compare.specs.CommandLine.{Asked, NamedSource, NotAsked, Understood};
 
 use std::env::Args;
 use std::fmt;
@@ -29,20 +30,32 @@ pub enum Misuse {
 }
 
 // The command that the arguments are, the program's own name first.
-pub fn command_of(mut args: Args) -> Result<Command, Misuse> {
+pub fn command_of(mut args: Args) -> Result<Command, Misuse>
+    ensures { Understood (drop 1 (into_iter_items args)) result }
+{
     let _ = args.next();
     let Some(option) = args.next() else {
         return Err(Misuse::Nothing);
     };
-    let command = match option.as_str() {
-        "--help" | "-h" => Command::Help,
-        "--version" => Command::Version,
-        "--words" => Command::Words(args.next().map_or(Ok(Source::Stdin), Source::try_from)?),
-        _ => return Err(Misuse::Unknown(option)),
-    };
+    let command = command_for(option, &mut args)?;
     match args.next() {
         Some(more) => Err(Misuse::TooMany(more)),
         None => Ok(command),
+    }
+}
+
+// The command that the option asks for, with what follows it where it takes that.
+fn command_for(option: String, args: &mut Args) -> Result<Command, Misuse>
+    ensures { MatchResult result (λ c. Asked option (into_iter_items args.old) c (into_iter_items args.new)) (NotAsked option (into_iter_items args.old)) }
+{
+    match option.as_str() {
+        "--help" | "-h" => Ok(Command::Help),
+        "--version" => Ok(Command::Version),
+        "--words" => match args.next() {
+            Some(name) => Ok(Command::Words(Source::try_from(name)?)),
+            None => Ok(Command::Words(Source::Stdin)),
+        },
+        _ => Err(Misuse::Unknown(option)),
     }
 }
 

@@ -46,7 +46,7 @@ fn head_within<'a, B: Builder>(
 }
 
 // Adds the program that the words begin with, where there is room for so many levels. Gives what it is made into, and
-// what follows it.
+// what follows it; where it is refused, the builder holds parts of it and is of no more use.
 pub fn read_program<'a, B: Builder>(
     builder: &mut B,
     words: &'a [u32],
