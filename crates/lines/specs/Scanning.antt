@@ -1,6 +1,7 @@
 -- How a line is read, byte by byte.
 --     Scan      the numbers that are complete, and where reading stands
---     Reading   what there is of a line: the scan, how many bytes came until it stopped, and room for how many numbers
+--     Reading   what there is of a line: the scan, how many bytes came until it stopped, and for how many numbers there is
+--               room, which those that are complete are within
 --     state_after
 --               where reading stands after one byte more
 --     after     what a byte makes of a scan that keeps at most so many numbers
@@ -23,6 +24,8 @@ pub record Reading : Type 0 where
   pub scan : Scan
   pub column : ℕ
   pub capacity : ℕ
+  pub within : length scan.numbers ≤ capacity
+  pub small : capacity < 2 ^ 63
 
 abbrev pub started : Scan
 started = record { numbers = []; state = Gap }
@@ -79,10 +82,11 @@ pub record Pushed (most : ℕ) (l : Reading) (b : ℕ) (l' : Reading) : Type 0 w
   pub column : l'.column ≡ column_after l.scan.state l.column
   pub reads : (bs : List ℕ) → HasRead most bs l → HasRead most (bs ++ b ∷ []) l'
 
--- Nothing has changed, but for how much room there is.
+-- nothing has changed
 pub record Same (l l' : Reading) : Type 0 where
   pub scan : l'.scan ≡ l.scan
   pub column : l'.column ≡ l.column
+  pub room : l'.capacity ≡ l.capacity
 
 -- A number ends with the byte b and is to be kept, and the memory for numbers is used up.
 pub record NeedsMemory (most : ℕ) (l : Reading) (b : ℕ) : Type 0 where

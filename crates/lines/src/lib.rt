@@ -37,21 +37,21 @@ impl State {
     fn after(self, byte: u8) -> (State, Option<u32>)
         ensures { result ≡ (state_after self byte, number_ended self byte) }
     {
-        match (self, byte) {
-            (State::Stopped(_), _) => (self, None),
-            (State::Gap, b' ' | b'\t' | b'\r' | b'\n') => (State::Gap, None),
-            (State::Number(n), b' ' | b'\t' | b'\r' | b'\n') => (State::Gap, Some(n)),
-            (State::Gap, b'0'..=b'9') => (State::Number(u32::from(byte - b'0')), None),
+        let fault = match (self, byte) {
+            (State::Stopped(fault), _) => fault,
+            (State::Gap, b' ' | b'\t' | b'\r' | b'\n') => return (State::Gap, None),
+            (State::Number(n), b' ' | b'\t' | b'\r' | b'\n') => return (State::Gap, Some(n)),
+            (State::Gap, b'0'..=b'9') => return (State::Number(u32::from(byte - b'0')), None),
             (State::Number(n), b'0'..=b'9') => {
                 let grown = u64::from(n) * 10 + u64::from(byte - b'0');
-                let state = u32::try_from(grown).map_or(
-                    State::Stopped(Fault::TooLarge),
-                    State::Number,
-                );
-                (state, None)
+                match u32::try_from(grown) {
+                    Ok(n) => return (State::Number(n), None),
+                    Err(_) => Fault::TooLarge,
+                }
             }
-            _ => (State::Stopped(Fault::NotNumber), None),
-        }
+            _ => Fault::NotNumber,
+        };
+        (State::Stopped(fault), None)
     }
 }
 
@@ -66,12 +66,13 @@ pub struct Line<const MOST: usize> {
 }
 
 impl<const MOST: usize> Model for Line<MOST> {
-    ghost use Rattle.std.specs.Prelude.{vec_items, vec_capacity};
+    ghost use Rattle.std.specs.Prelude.{◌≤◌, vec_items, vec_capacity};
+    ghost use Rattle.std.proofs.Common.{subst};
     ghost use Rattle.lines.specs.Scanning.{Reading};
 
     ghost Value = { Reading };
 
-    ghost view = { λ l. record { scan = record { numbers = vec_items l.numbers; state = l.state }; column = l.column; capacity = vec_capacity l.numbers } };
+    ghost view = { λ l. record { scan = record { numbers = vec_items l.numbers; state = l.state }; column = l.column; capacity = vec_capacity l.numbers; within = subst (λ n. n ≤ vec_capacity l.numbers) l.numbers.ok.0 l.numbers.ok.1; small = l.numbers.small } };
 }
 
 impl<const MOST: usize> Line<MOST> {
@@ -86,7 +87,7 @@ impl<const MOST: usize> Line<MOST> {
         }
     }
 
-    // One byte more; where there is no memory for a number, nothing changes but how much room there is.
+    // One byte more; where there is no memory for a number, nothing changes.
     pub fn push(&mut self, byte: u8) -> Result<(), AllocError>
         ensures read { MatchResult result (λ _. Pushed MOST self.old byte self.new) (λ _. Same self.old self.new) }
         ensures no_memory { OnErr result (NeedsMemory MOST self.old byte) }
@@ -99,6 +100,8 @@ impl<const MOST: usize> Line<MOST> {
         self.state = match ended {
             None => state,
             Some(n) if self.numbers.len() < MOST => {
+                // room first: a vector that can't grow stays as it is
+                self.numbers.reserve(1)?;
                 self.numbers.push(n)?;
                 state
             }

@@ -43,11 +43,12 @@ impl Fault {
     }
 }
 
-impl fmt::Display for Reason {
-    ghost output = { λ r. Some (reason_text r) };
-
-    fn fmt<W: fmt::Write>(&self, f: &mut fmt::Formatter<W>) -> fmt::Result {
-        f.write_str(match self {
+impl Reason {
+    // The reason in words.
+    pub fn text(self) -> &'static str
+        ensures { result.now ≡ reason_text self }
+    {
+        match self {
             Reason::TooLong => "too long",
             Reason::Ended => "ended inside a program",
             Reason::NoCode => "no code",
@@ -55,7 +56,15 @@ impl fmt::Display for Reason {
             Reason::TooDeep => "too deep",
             Reason::TooManySteps => "too many steps",
             Reason::LeftOver => "words left over",
-        })
+        }
+    }
+}
+
+impl fmt::Display for Reason {
+    ghost output = { λ r. Some (reason_text r) };
+
+    fn fmt<W: fmt::Write>(&self, f: &mut fmt::Formatter<W>) -> fmt::Result {
+        f.write_str(self.text())
     }
 }
 
