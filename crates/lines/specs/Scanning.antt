@@ -1,7 +1,7 @@
 -- How a line is read, byte by byte.
 --     Scan      the numbers that are complete, and where reading stands
 --     Reading   what there is of a line: the scan, how many bytes came until it stopped, and for how many numbers there is
---               room, which those that are complete are within
+--               room: for those that are complete, and for fewer than 2 ^ 63
 --     state_after
 --               where reading stands after one byte more
 --     after     what a byte makes of a scan that keeps at most so many numbers

@@ -37,6 +37,7 @@ impl State {
     fn after(self, byte: u8) -> (State, Option<u32>)
         ensures { result ≡ (state_after self byte, number_ended self byte) }
     {
+        // reading stops in one place: with a stop in each arm, every digit that fits takes longer
         let fault = match (self, byte) {
             (State::Stopped(fault), _) => fault,
             (State::Gap, b' ' | b'\t' | b'\r' | b'\n') => return (State::Gap, None),
@@ -100,9 +101,9 @@ impl<const MOST: usize> Line<MOST> {
         self.state = match ended {
             None => state,
             Some(n) if self.numbers.len() < MOST => {
-                // room first: a vector that can't grow stays as it is
+                // where there is no memory for it, the room stays as it was
                 self.numbers.reserve(1)?;
-                self.numbers.push(n)?;
+                self.numbers.push_reserved(n);
                 state
             }
             Some(_) => State::Stopped(Fault::TooMany),

@@ -44,7 +44,7 @@ impl Fault {
 }
 
 impl Reason {
-    // The reason in words.
+    // The reason in words; this can't fail, as writing it may.
     pub fn text(self) -> &'static str
         ensures { result.now ≡ reason_text self }
     {
